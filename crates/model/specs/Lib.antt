@@ -1,0 +1,17 @@
+pub mod Base
+pub mod Text
+pub mod Word
+pub mod Expression
+pub mod Form
+pub mod Library
+pub mod Fault
+pub mod Read
+pub mod Mode
+pub mod Graph
+pub mod Vector
+pub mod Image
+pub mod Tables
+pub mod Message
+pub mod Lock
+pub mod Machine
+pub mod Course

@@ -1,0 +1,40 @@
+-- Locks and their clashes (01, "The machine", "Locks"; section 5.2 of the paper).
+use Prim.Native.Nat.{ℕ}
+use mathlib.Core.Bool.{Bool, true, false, not, _&&_, _||_}
+use mathlib.Core.List.{List, [], _∷_, map}
+use lib.ListN.{length}
+use lib.Dec.{eqb}
+use Rattle.model.specs.Base.{any, keep, upto}
+use Rattle.model.specs.Word.{Name}
+use Rattle.model.specs.Vector.{Program, commuteIn}
+use Rattle.model.specs.Message.{Target, object, class, domain, classOf, inDomain}
+
+-- M on an object; (M, false) or (M, true) on a class.
+pub data Lock : Type 0 where
+  onObject : ℕ → Name → Lock
+  onClass : ℕ → Name → Bool → Lock
+
+-- "domain (it and all descendants)", in text order
+unfoldable pub domainOf : Program → ℕ → List ℕ
+unfolding keep upto
+domainOf p c = keep (inDomain p c) (upto (λ d. d) (length (p .library .classes)))
+
+-- "object: M on it, and (M, false) on its class"; "class: (M, true) on that class only"; "domain: (M, true) on each class in
+-- it, M being the method of that name in that class, inherited or not"
+abbrev pub locksFor : Program → Target → Name → List Lock
+locksFor p (object o) m = onObject o m ∷ onClass (classOf p o) m false ∷ []
+locksFor p (class c) m = onClass c m true ∷ []
+locksFor p (domain c) m = map (λ d. onClass d m true) (domainOf p c)
+
+-- "Two locks of different slots clash if their methods don't commute and they are on one object, or on one class with at
+-- least one true."
+abbrev pub lockClash : Program → Lock → Lock → Bool
+lockClash p (onObject o m) (onObject q n) = eqb o q && not (commuteIn p (classOf p o) m n)
+lockClash p (onObject o m) (onClass d n v) = false
+lockClash p (onClass c m w) (onObject q n) = false
+lockClash p (onClass c m w) (onClass d n v) = eqb c d && (w || v) && not (commuteIn p c m n)
+
+-- Some lock of the one clashes with some lock of the other.
+unfoldable pub locksClash : Program → List Lock → List Lock → Bool
+unfolding any commuteIn
+locksClash p ks held = any (λ k. any (lockClash p k) held) ks

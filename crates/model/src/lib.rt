@@ -1,0 +1,1 @@
+// The model is definitions alone: see specs/.

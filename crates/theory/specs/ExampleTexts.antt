@@ -1,0 +1,130 @@
+-- The texts of the examples: those of document 01 and of the paper, and texts at the edges of 01's limits.
+use Prim.Native.Nat.{ℕ, zero, suc, _+_}
+use Prim.Native.String.{String}
+use mathlib.Core.List.{List, [], _∷_, _++_, flatMap}
+use lib.ListN.{replicate}
+use Rattle.model.specs.Base.{bytes, upto}
+use Rattle.model.specs.Tables.{digits}
+
+-- Lines, each with its LF.
+unfoldable pub text : List String → List ℕ
+unfolding flatMap
+text ls = flatMap (λ l. bytes l ++ (10 ∷ [])) ls
+
+-- The text of 01, "What `tables` prints".
+unfoldable pub lanes : List ℕ
+unfolding text
+lanes = text
+    ("class run" ∷ "field cycles" ∷ "field clusters" ∷
+    "method shot" ∷ "set cycles + cycles 1" ∷ "end" ∷
+    "method plot" ∷ "reply clusters" ∷ "end" ∷
+    "class lane : run" ∷ "field focus" ∷
+    "method shot" ∷ "send run.shot to self arg" ∷ "set focus arg" ∷ "end" ∷
+    "method tune" ∷ "set focus + focus arg" ∷ "end" ∷
+    "object lane1 lane" ∷ [])
+
+-- Classes c1 and c2 of the paper's Figure 1, bodies written to the direct vectors and self-calls of its section 4.
+unfoldable pub figure1 : List ℕ
+unfolding text
+figure1 = text
+    ("class c1" ∷ "field f1" ∷ "field f2" ∷ "field f3" ∷
+    "method m1" ∷ "send m2 to self arg" ∷ "send m3 to self arg" ∷ "end" ∷
+    "method m2" ∷ "set f1 + f2 arg" ∷ "end" ∷
+    "method m3" ∷ "when f2 reply f3" ∷ "end" ∷
+    "class c2 : c1" ∷ "field f4" ∷ "field f5" ∷ "field f6" ∷
+    "method m2" ∷ "send c1.m2 to self arg" ∷ "set f4 + f5 arg" ∷ "end" ∷
+    "method m4" ∷ "when < f5 arg set f6 arg" ∷ "end" ∷ [])
+
+-- A method that only calls itself.
+unfoldable pub endless : List ℕ
+unfolding text
+endless = text ("class a" ∷ "method m" ∷ "send m to self arg" ∷ "end" ∷ "object o a" ∷ [])
+
+-- A diamond: d takes m from its first parent b, which has it from a, although c writes it too.
+unfoldable pub diamond : List ℕ
+unfolding text
+diamond = text
+    ("class a" ∷ "field x" ∷ "field y" ∷ "method m" ∷ "set x 1" ∷ "end" ∷
+    "class b : a" ∷ "field z" ∷
+    "class c : a" ∷ "method m" ∷ "set y 1" ∷ "end" ∷
+    "class d : b c" ∷ "object o d" ∷ [])
+
+-- A circle of calls, and a method that leads into it.
+unfoldable pub circle : List ℕ
+unfolding text
+circle = text
+    ("class a" ∷ "field x" ∷ "field y" ∷ "field z" ∷
+    "method p" ∷ "set x 1" ∷ "when arg send q to self 0" ∷ "end" ∷
+    "method q" ∷ "reply y" ∷ "send r to self arg" ∷ "end" ∷
+    "method r" ∷ "when 0 set z 0" ∷ "send p to self arg" ∷ "end" ∷
+    "method s" ∷ "send q to self got" ∷ "end" ∷ [])
+
+-- A body behind a prefix calls plainly, and an inherited body calls with a prefix: the plain call is the object's class's.
+unfoldable pub prefixed : List ℕ
+unfolding text
+prefixed = text
+    ("class a" ∷ "field x" ∷ "field y" ∷ "method m" ∷ "send n to self 0" ∷ "end" ∷ "method n" ∷ "set x 1" ∷ "end" ∷
+    "class b : a" ∷ "method n" ∷ "set y 1" ∷ "end" ∷ "method m" ∷ "send a.m to self arg" ∷ "end" ∷
+    "class c : b" ∷ "field z" ∷ "method n" ∷ "set z 1" ∷ "end" ∷ [])
+
+-- Two classes whose objects stand mixed; g has another body in each.
+unfoldable pub mixed : List ℕ
+unfolding text
+mixed = text
+    ("class a" ∷ "field x" ∷ "method g" ∷ "set x + x arg" ∷ "reply x" ∷ "end" ∷ "method h" ∷ "reply x" ∷ "end" ∷
+    "class b : a" ∷ "field y" ∷ "method g" ∷ "set y arg" ∷ "send h to self 0" ∷ "reply + got 1" ∷ "end" ∷
+    "class c" ∷ "method g" ∷ "end" ∷
+    "object o1 a 5" ∷ "object o2 b 7" ∷ "object o3 a 4294967295" ∷ [])
+
+-- A method of 1,024 steps on an object, and one of a step more.
+unfoldable pub long : List ℕ
+unfolding text
+long =
+    text ("class a" ∷ "field x" ∷ "method c" ∷ []) ++ text (replicate 31 "set x + x 1") ++
+    text ("end" ∷ "method m" ∷ []) ++ text (replicate 31 "send c to self 0") ++
+    text ("end" ∷ "method n" ∷ []) ++ text (replicate 31 "send c to self 0") ++
+    text ("reply x" ∷ "end" ∷ "object o a" ∷ [])
+
+-- ---- texts at the limits
+
+-- The line `word xK` for each K below n.
+unfoldable pub numbered : String → String → ℕ → List ℕ
+unfolding flatMap upto digits
+numbered word behind n = flatMap (λ k. bytes word ++ digits 10 k ++ bytes behind) (upto (λ k. k) n)
+
+unfoldable pub withFields : ℕ → List ℕ
+unfolding text numbered
+withFields n = text ("class a" ∷ []) ++ numbered "field x" "\n" n
+
+unfoldable pub withMethods : ℕ → List ℕ
+unfolding text numbered
+withMethods n = text ("class a" ∷ []) ++ numbered "method x" "\nend\n" n
+
+unfoldable pub withClasses : ℕ → List ℕ
+unfolding numbered
+withClasses n = numbered "class x" "\n" n
+
+unfoldable pub withObjects : ℕ → List ℕ
+unfolding text numbered
+withObjects n = text ("class a" ∷ []) ++ numbered "object x" " a\n" n
+
+unfoldable pub withStatements : ℕ → List ℕ
+unfolding text
+withStatements n = text ("class a" ∷ "method m" ∷ []) ++ text (replicate n "reply 0") ++ text ("end" ∷ [])
+
+-- A body of one statement.
+unfoldable pub saying : String → List ℕ
+unfolding text
+saying s = text ("class a" ∷ "field x" ∷ "method m" ∷ s ∷ "end" ∷ [])
+
+-- An expression in which every path has n operators, with the leaf given.
+unfoldable pub tree : List ℕ → ℕ → List ℕ
+tree leaf zero = leaf
+tree leaf (suc n) = let e = tree leaf n in bytes "+ " ++ e ++ bytes " " ++ e
+
+-- An accepted text of 32,767 bytes and one more for each byte of `tail`.
+unfoldable pub longest : String → List ℕ
+unfolding text flatMap tree
+longest tail =
+    text ("class a" ∷ "method m" ∷ []) ++ flatMap (λ l. bytes "reply " ++ l ++ bytes "\n") (replicate 9 (tree (bytes "4294967295") 8))
+    ++ bytes "reply " ++ tree (bytes "1234567") 8 ++ bytes "\n" ++ text (replicate 11 "reply 4294967295") ++ bytes "reply " ++ bytes tail ++ bytes "\nend\n"

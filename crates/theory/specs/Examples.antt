@@ -1,0 +1,323 @@
+-- The examples: one table, each row an input and what it must give, and one theorem, that no row fails. The starred examples
+-- of document 01 come first, then its others, then edges of its rules, then samples from outside.
+use Prim.Native.Nat.{ℕ, _+_, _*_}
+use Prim.Native.String.{String}
+use mathlib.Core.Path.{_≡_, refl}
+use mathlib.Core.Bool.{Bool, true, false, _&&_}
+use mathlib.Core.Option.{Option, none, some}
+use mathlib.Core.List.{List, [], _∷_, _++_, map, flatMap}
+use lib.ListN.{length, take, replicate}
+use lib.Dec.{eqb}
+use Rattle.model.specs.Base.{bytes, same, every}
+use Rattle.model.specs.Text.{pieces, words}
+use Rattle.model.specs.Expression.{Parsed, parsed, unread, readLevels, expression, valueOf}
+use Rattle.model.specs.Library.{byFirstParent}
+use Rattle.model.specs.Read.{verdict, library}
+use Rattle.model.specs.Vector.{joinedVector}
+use Rattle.model.specs.Image.{image, u32Bytes, startingValues, startingValuesInto, statementPart, statementRefusal, compileRefusal, compiledInto, valuesRefusal}
+use Rattle.model.specs.Tables.{printed, letters}
+use Rattle.model.specs.Message.{object, class, domain}
+use Rattle.model.specs.Machine.{Call, begin, send, step, commit, abort, Answer, done, going, answer, refuse, held, stopped, played}
+use Rattle.model.specs.Course.{Compared, course}
+use Rattle.theory.specs.ExampleTexts.{text, lanes, figure1, endless, diamond, circle, prefixed, mixed, long, withFields, withMethods, withClasses, withObjects, withStatements, saying, longest}
+use Rattle.theory.specs.ExampleVectors
+
+-- What is put in, and what must come out.
+pub data Row : Type 0 where
+  -- the number and the line of a text's fault
+  reads : List ℕ → ℕ → ℕ → Row
+  -- what `tables` prints for a text
+  prints : List ℕ → List ℕ → Row
+  -- the direct vector of a class's method, in the letters of `tables`
+  direct : List ℕ → ℕ → String → String → Row
+  -- the image of a text, whole; and its length and pairs
+  compiles : List ℕ → List ℕ → Row
+  pairs : List ℕ → ℕ → List ℕ → Row
+  -- a statement of a text by its count, and the number of a look-up
+  finds : List ℕ → ℕ → String → Row
+  misses : List ℕ → ℕ → ℕ → Row
+  -- the number that compiling into a buffer of that many bytes gives, and starting values into a list of that many
+  compilesInto : List ℕ → ℕ → ℕ → Row
+  counts : List ℕ → ℕ → ℕ → Row
+  -- what a list holds after the starting values were written into it, and a buffer after compiling into it
+  starts : List ℕ → List ℕ → List ℕ → Row
+  leaves : List ℕ → List ℕ → List ℕ → Row
+  -- the value of an expression without fields, `arg` being 7 and `got` 9
+  values : String → ℕ → Row
+  -- the answers of a list of calls made after a start on the text's starting values, and the fields in the end
+  plays : List ℕ → List Call → List Answer → List ℕ → Row
+  -- the same list leaves nothing open, and the plain course ends with the same fields and answers
+  agrees : List ℕ → List Call → Row
+
+-- ---- how a row is tried
+
+abbrev pub sameLists : List (List ℕ) → List (List ℕ) → Bool
+sameLists [] [] = true
+sameLists [] (y ∷ ys) = false
+sameLists (x ∷ xs) [] = false
+sameLists (x ∷ xs) (y ∷ ys) = same x y && sameLists xs ys
+
+abbrev pub coded : Answer → List ℕ
+coded done = 0 ∷ []
+coded going = 1 ∷ []
+coded (answer v) = 2 ∷ v ∷ []
+coded (refuse n) = n ∷ []
+coded (held s) = 40 ∷ s ∷ []
+coded stopped = 41 ∷ []
+
+abbrev pub whole : Parsed → ℕ → Bool
+whole (parsed e []) v = eqb (valueOf (λ f. 0) 7 9 e) v
+whole (parsed e (w ∷ ws)) v = false
+whole unread v = false
+
+abbrev pub right : Compared → Bool
+right y = isIt (y .run)
+  where
+    isIt : Option ℕ → Bool
+    isIt none = false
+    isIt (some v) = eqb v (y .got)
+
+abbrev pub given : List ℕ → List Call → List Answer × List ℕ
+given t cs = played t (startingValues (library t)) cs
+
+unfoldable pub passes : Row → Bool
+unfolding same every pieces readLevels valueOf verdict library printed image startingValues startingValuesInto statementPart statementRefusal compileRefusal compiledInto valuesRefusal joinedVector byFirstParent played course
+passes (reads t n l) = let v = verdict t in eqb (v .0) n && eqb (v .1) l
+passes (prints t s) = same (printed t) s
+passes (direct t c m s) =
+    let l = library t in
+    same (letters (joinedVector l (byFirstParent l) c (record { class = c; method = bytes m } ∷ []))) (bytes s)
+passes (compiles t bs) = same (image t) bs
+passes (pairs t n ps) = eqb (length (image t)) n && same (take 24 (image t)) (flatMap u32Bytes ps)
+passes (finds t k s) = same (statementPart t k) (bytes s)
+passes (misses t k n) = eqb (statementRefusal t k .0) n && same (statementPart t k) []
+passes (compilesInto t k n) = eqb (compileRefusal t k .0) n
+passes (counts t k n) = eqb (valuesRefusal t k .0) n
+passes (starts t vs ws) = same (startingValuesInto t vs) ws
+passes (leaves t bs cs) = same (compiledInto t bs) cs
+passes (values s v) = whole (expression (words (bytes s))) v
+passes (plays t cs rs fs) = let x = given t cs in sameLists (map coded (x .0)) (map coded rs) && same (x .1) fs
+passes (agrees t cs) =
+    let x = given t cs in
+    let y = course t (startingValues (library t)) cs (x .0) in
+    same (x .1) (y .fields) && every right (y .compared)
+
+-- ---- the rows
+
+-- lane1 is object 0, of class 1; its methods are shot 0, plot 1, tune 2.
+abbrev starred : List Row
+starred =
+    prints lanes (text ("run shot WN ny" ∷ "run plot NR yy" ∷ "lane shot WNW nyn" ∷ "lane plot NRN yyy" ∷ "lane tune NNW nyn" ∷ [])) ∷
+    pairs lanes 124 (24 ∷ 40 ∷ 64 ∷ 40 ∷ 104 ∷ 20 ∷ []) ∷
+    prints figure1
+    (text
+    ("c1 m1 WRR nny" ∷ "c1 m2 WRN nny" ∷ "c1 m3 NRR yyy" ∷ "c2 m1 WRRWRN nnyy" ∷ "c2 m2 WRNWRN nnyy" ∷ "c2 m3 NRRNNN yyyy" ∷
+    "c2 m4 NNNNRW yyyn" ∷ [])) ∷
+    direct figure1 1 "m1" "NNNNNN" ∷
+    direct figure1 1 "m2" "NNNWRN" ∷
+    direct figure1 0 "m2" "WRN" ∷
+    direct figure1 1 "m3" "NRRNNN" ∷
+    direct figure1 1 "m4" "NNNNRW" ∷
+    reads [] 0 0 ∷
+    pairs [] 24 (24 ∷ 0 ∷ 24 ∷ 0 ∷ 24 ∷ 0 ∷ []) ∷
+    values "- 0 1" 4294967295 ∷
+    values "* 65536 65536" 0 ∷
+    values "< 0 4294967295" 1 ∷
+    plays lanes (begin 0 ∷ begin 1 ∷ begin 2 ∷ send 0 (object 0) 0 0 ∷ send 1 (object 0) 1 0 ∷ send 2 (object 0) 2 0 ∷ [])
+    (done ∷ done ∷ done ∷ done ∷ done ∷ held 0 ∷ []) (0 ∷ 0 ∷ 0 ∷ []) ∷
+    plays lanes (begin 0 ∷ send 0 (object 0) 0 40 ∷ step 0 ∷ step 0 ∷ step 0 ∷ step 0 ∷ step 0 ∷ send 0 (object 0) 2 0 ∷ [])
+    (done ∷ done ∷ going ∷ going ∷ going ∷ going ∷ answer 0 ∷ done ∷ []) (1 ∷ 0 ∷ 40 ∷ []) ∷
+    plays lanes (begin 0 ∷ send 0 (object 0) 2 5 ∷ step 0 ∷ step 0 ∷ send 0 (object 0) 2 5 ∷ step 0 ∷ step 0 ∷ [])
+    (done ∷ done ∷ going ∷ answer 0 ∷ done ∷ going ∷ answer 0 ∷ []) (0 ∷ 0 ∷ 10 ∷ []) ∷
+    plays lanes (begin 0 ∷ send 0 (object 0) 2 5 ∷ step 0 ∷ step 0 ∷ send 0 (object 0) 2 5 ∷ step 0 ∷ step 0 ∷ abort 0 ∷ [])
+    (done ∷ done ∷ going ∷ answer 0 ∷ done ∷ going ∷ answer 0 ∷ done ∷ []) (0 ∷ 0 ∷ 0 ∷ []) ∷
+    plays lanes (begin 1 ∷ send 1 (object 0) 1 0 ∷ begin 0 ∷ send 0 (class 1) 0 0 ∷ []) (done ∷ done ∷ done ∷ done ∷ []) (0 ∷ 0 ∷ 0 ∷ []) ∷
+    plays endless (begin 0 ∷ send 0 (object 0) 0 0 ∷ replicate 8 (step 0)) (done ∷ done ∷ replicate 7 going ++ (stopped ∷ [])) [] ∷ []
+
+-- The examples without a star.
+abbrev others : List Row
+others =
+    reads (text ("class a234567890123456" ∷ [])) 0 0 ∷
+    reads (text ("class a2345678901234567" ∷ [])) 12 1 ∷
+    reads (withFields 32) 0 0 ∷
+    reads (withFields 33) 17 34 ∷
+    reads (saying "reply + + + + + + + + 1 2 3 4 5 6 7 8 9") 0 0 ∷
+    reads (saying "reply + + + + + + + + + 1 2 3 4 5 6 7 8 9 0") 12 4 ∷
+    reads (text ("class a" ∷ "class b : c" ∷ "class d" ∷ "class e" ∷ "class f" ∷ "class g" ∷ "class h" ∷ "class i" ∷ "class J" ∷ [])) 12 9 ∷ []
+
+-- "32,768 bytes read, 32,769: 11."
+abbrev longestRows : List Row
+longestRows = reads (longest "1") 0 0 ∷ reads (longest "12") 11 0 ∷ []
+
+-- Each number, and the first and the last allowed of each limit.
+abbrev limits : List Row
+limits =
+    reads (10 ∷ []) 12 1 ∷
+    reads (bytes "class a") 12 1 ∷
+    reads (text ("class a" ∷ "method m" ∷ "reply 1" ∷ [])) 12 4 ∷
+    reads (text ("class a" ∷ "method m" ∷ "field x" ∷ "end" ∷ [])) 12 3 ∷
+    reads (text ("class a" ∷ "method m" ∷ "end" ∷ "field x" ∷ [])) 12 4 ∷
+    reads (text ("class a :" ∷ [])) 12 1 ∷
+    reads (text ("class  a" ∷ [])) 12 1 ∷
+    reads (text ("class level" ∷ [])) 12 1 ∷
+    reads (saying "add x 1") 12 4 ∷
+    reads (saying "when x when x reply 1") 12 4 ∷
+    reads (saying "when x") 12 4 ∷
+    reads (saying "reply 4294967295") 0 0 ∷
+    reads (saying "reply 4294967296") 12 4 ∷
+    reads (saying "reply 01") 12 4 ∷
+    reads (saying "send a.b.c to self 0") 12 4 ∷
+    reads (text ("class a" ∷ "class a" ∷ [])) 13 2 ∷
+    reads (text ("class a" ∷ "field x" ∷ "class b : a" ∷ "field x" ∷ [])) 13 4 ∷
+    reads (text ("class a : b b" ∷ [])) 13 1 ∷
+    reads (text ("class a : a" ∷ [])) 14 1 ∷
+    reads (text ("object o a" ∷ [])) 14 1 ∷
+    reads (saying "send n to self 0") 14 4 ∷
+    reads (saying "when y reply 1") 14 4 ∷
+    reads (text ("class a" ∷ "field x" ∷ "class b" ∷ "field x" ∷ "class c : a b" ∷ [])) 15 5 ∷
+    reads (text ("class r" ∷ "field x" ∷ "class a : r" ∷ "class b : r" ∷ "class c : a b" ∷ [])) 0 0 ∷
+    reads (text ("class b" ∷ "method m" ∷ "end" ∷ "class a" ∷ "method m" ∷ "send b.m to self 0" ∷ "end" ∷ [])) 16 6 ∷
+    reads (saying "send a.m to self 0") 16 4 ∷
+    reads (saying "send a.n to self 0") 14 4 ∷
+    reads (withClasses 16) 0 0 ∷
+    reads (withClasses 17) 17 17 ∷
+    reads (withObjects 64) 0 0 ∷
+    reads (withObjects 65) 17 66 ∷
+    reads (withMethods 32) 0 0 ∷
+    reads (withMethods 33) 17 66 ∷
+    reads (withStatements 32) 0 0 ∷
+    reads (withStatements 33) 17 35 ∷
+    reads (withClasses 5 ++ text ("class a : x0 x1 x2 x3" ∷ [])) 0 0 ∷
+    reads (withClasses 5 ++ text ("class a : x0 x1 x2 x3 x4" ∷ [])) 17 6 ∷
+    reads (text ("class a" ∷ "field x" ∷ "object o a 1" ∷ [])) 0 0 ∷
+    reads (text ("class a" ∷ "field x" ∷ "object o a 1 2" ∷ [])) 17 3 ∷
+    finds lanes 3 "set focus arg" ∷
+    misses lanes 5 23 ∷
+    misses (withFields 33) 0 17 ∷
+    compilesInto lanes 123 21 ∷
+    compilesInto lanes 124 0 ∷
+    compilesInto (withFields 33) 0 17 ∷
+    leaves [] (replicate 23 9) (replicate 23 9) ∷
+    leaves [] (replicate 25 9) (image [] ++ (9 ∷ [])) ∷
+    leaves (withFields 33) (9 ∷ []) (9 ∷ []) ∷
+    counts lanes 2 22 ∷
+    counts lanes 3 0 ∷
+    starts mixed (replicate 4 9) (5 ∷ 7 ∷ 0 ∷ 4294967295 ∷ []) ∷
+    starts mixed (replicate 3 9) (replicate 3 9) ∷ []
+
+-- Resolution, circles, prefixes.
+abbrev vectors : List Row
+vectors =
+    prints diamond (text ("a m WN n" ∷ "b m WNN n" ∷ "c m NW n" ∷ "d m WNN n" ∷ [])) ∷
+    prints circle (text ("a p WRW nnnn" ∷ "a q WRW nnnn" ∷ "a r WRW nnnn" ∷ "a s WRW nnnn" ∷ [])) ∷
+    prints prefixed (text ("a m WN nn" ∷ "a n WN nn" ∷ "b m NW nn" ∷ "b n NW nn" ∷ "c m NNW nn" ∷ "c n NNW nn" ∷ [])) ∷
+    prints (text ("class a" ∷ "field x" ∷ "class b" ∷ "method m" ∷ "end" ∷ [])) (text ("b m - y" ∷ [])) ∷ []
+
+-- In `mixed` the methods of a and b are g 0 and h 1; the objects are a's, b's and a's again.
+abbrev machine : List Row
+machine =
+    plays mixed (begin 0 ∷ send 0 (domain 0) 0 3 ∷ replicate 12 (step 0))
+    (done ∷ done ∷ replicate 11 going ++ (answer 18 ∷ [])) (8 ∷ 7 ∷ 3 ∷ 2 ∷ []) ∷
+    plays mixed (begin 0 ∷ send 0 (domain 0) 0 3 ∷ begin 1 ∷ send 1 (object 1) 1 0 ∷ send 1 (object 0) 1 0 ∷ [])
+    (done ∷ done ∷ done ∷ done ∷ refuse 34 ∷ []) (5 ∷ 7 ∷ 0 ∷ 4294967295 ∷ []) ∷
+    plays mixed (begin 1 ∷ send 1 (class 2) 0 0 ∷ commit 1 ∷ step 1 ∷ step 1 ∷ commit 1 ∷ commit 1 ∷ [])
+    (done ∷ done ∷ refuse 34 ∷ answer 0 ∷ refuse 35 ∷ done ∷ refuse 32 ∷ []) (5 ∷ 7 ∷ 0 ∷ 4294967295 ∷ []) ∷
+    plays mixed (begin 8 ∷ begin 7 ∷ begin 7 ∷ step 6 ∷ send 7 (object 3) 0 0 ∷ send 7 (class 3) 0 0 ∷ send 7 (object 0) 2 0 ∷ abort 7 ∷ abort 7 ∷ [])
+    (refuse 31 ∷ done ∷ refuse 33 ∷ refuse 32 ∷ refuse 36 ∷ refuse 36 ∷ refuse 36 ∷ done ∷ refuse 32 ∷ []) (5 ∷ 7 ∷ 0 ∷ 4294967295 ∷ []) ∷
+    plays mixed
+    (begin 0 ∷ begin 3 ∷ send 0 (object 2) 0 1 ∷ step 0 ∷ step 0 ∷ step 0 ∷ send 3 (object 2) 1 0 ∷ send 3 (class 0) 1 0 ∷ commit 0 ∷ send 3 (object 2) 1 0 ∷ [])
+    (done ∷ done ∷ done ∷ going ∷ going ∷ answer 0 ∷ held 0 ∷ held 0 ∷ done ∷ done ∷ []) (5 ∷ 7 ∷ 0 ∷ 0 ∷ []) ∷
+    plays mixed
+    (begin 5 ∷ send 5 (object 1) 0 9 ∷ step 5 ∷ step 5 ∷ begin 2 ∷ send 2 (domain 0) 0 1 ∷ send 2 (class 0) 0 1 ∷ step 2 ∷ abort 2 ∷ abort 5 ∷ [])
+    (done ∷ done ∷ going ∷ going ∷ done ∷ held 5 ∷ done ∷ going ∷ done ∷ done ∷ []) (5 ∷ 7 ∷ 0 ∷ 4294967295 ∷ []) ∷
+    []
+
+-- A message of 1,024 steps, and one of a step more.
+abbrev stops : List Row
+stops =
+    plays long (begin 0 ∷ send 0 (object 0) 1 0 ∷ replicate 1024 (step 0)) (done ∷ done ∷ replicate 1023 going ++ (answer 0 ∷ [])) (961 ∷ []) ∷
+    plays long (begin 0 ∷ send 0 (object 0) 2 0 ∷ replicate 1025 (step 0)) (done ∷ done ∷ replicate 1023 going ++ (stopped ∷ refuse 32 ∷ [])) (0 ∷ []) ∷ []
+
+-- A list that leaves nothing open, against the plain course.
+abbrev courses : List Row
+courses =
+    agrees mixed
+    (begin 0 ∷ begin 1 ∷ send 0 (object 0) 0 1 ∷ send 1 (class 1) 0 2 ∷ step 0 ∷ step 1 ∷ step 1 ∷ step 0 ∷ step 1 ∷ step 1 ∷ step 0 ∷ step 1 ∷ step 1 ∷
+    commit 1 ∷ send 0 (domain 0) 0 4 ∷ replicate 12 (step 0) ++ (commit 0 ∷ begin 0 ∷ send 0 (object 0) 0 7 ∷ step 0 ∷ abort 0 ∷ [])) ∷ []
+
+abbrev samples : List Row
+samples =
+    prints ExampleVectors.text56 ExampleVectors.tables56 ∷ compiles ExampleVectors.text56 ExampleVectors.image56 ∷
+    prints ExampleVectors.text49 ExampleVectors.tables49 ∷ compiles ExampleVectors.text49 ExampleVectors.image49 ∷
+    prints ExampleVectors.text52 ExampleVectors.tables52 ∷ compiles ExampleVectors.text52 ExampleVectors.image52 ∷
+    prints ExampleVectors.text47 ExampleVectors.tables47 ∷ compiles ExampleVectors.text47 ExampleVectors.image47 ∷
+    prints ExampleVectors.text1 ExampleVectors.tables1 ∷ compiles ExampleVectors.text1 ExampleVectors.image1 ∷
+    reads ExampleVectors.damaged56 14 18 ∷
+    reads ExampleVectors.damaged49 13 3 ∷
+    reads ExampleVectors.damaged18 12 15 ∷
+    reads ExampleVectors.damaged47 16 4 ∷
+    reads ExampleVectors.damaged31 15 60 ∷
+    plays ExampleVectors.text49 ExampleVectors.calls49 ExampleVectors.answers49 ExampleVectors.fields49 ∷
+    plays ExampleVectors.text1 ExampleVectors.calls1 ExampleVectors.answers1 ExampleVectors.fields1 ∷
+    plays ExampleVectors.text17 ExampleVectors.calls17 ExampleVectors.answers17 ExampleVectors.fields17 ∷
+    plays ExampleVectors.text47 ExampleVectors.calls47 ExampleVectors.answers47 ExampleVectors.fields47 ∷
+    plays ExampleVectors.text56 ExampleVectors.calls56 ExampleVectors.answers56 ExampleVectors.fields56 ∷ []
+
+-- ---- every row passes, a group at a time
+
+abbrev Passing : List Row → Type 0
+Passing rs = every passes rs ≡ true
+
+both : (qs rs : List Row) → Passing qs → Passing rs → Passing (qs ++ rs)
+unfolding every
+both [] rs h k = k
+both (q ∷ qs) rs h k = go (passes q) (λ e. both qs rs e k) h
+  where
+    go : (b : Bool) → (Passing qs → Passing (qs ++ rs)) → b && every passes qs ≡ true → b && every passes (qs ++ rs) ≡ true
+    go true rest e = rest e
+    go false rest e = e
+
+starred-pass : Passing starred
+unfolding every passes lanes figure1 endless text
+starred-pass = refl
+
+others-pass : Passing others
+unfolding every passes text withFields saying
+others-pass = refl
+
+longestRows-pass : Passing longestRows
+unfolding every passes longest
+longestRows-pass = refl
+
+limits-pass : Passing limits
+unfolding every passes lanes mixed text saying withFields withMethods withClasses withObjects withStatements
+limits-pass = refl
+
+vectors-pass : Passing vectors
+unfolding every passes text diamond circle prefixed
+vectors-pass = refl
+
+machine-pass : Passing machine
+unfolding every passes mixed
+machine-pass = refl
+
+stops-pass : Passing stops
+unfolding every passes long
+stops-pass = refl
+
+courses-pass : Passing courses
+unfolding every passes mixed
+courses-pass = refl
+
+samples-pass : Passing samples
+unfolding every passes ExampleVectors.text56 ExampleVectors.text49 ExampleVectors.text52 ExampleVectors.text47 ExampleVectors.text1 ExampleVectors.text17 ExampleVectors.tables56 ExampleVectors.tables49 ExampleVectors.tables52 ExampleVectors.tables47 ExampleVectors.tables1 ExampleVectors.damaged56 ExampleVectors.damaged49 ExampleVectors.damaged18 ExampleVectors.damaged47 ExampleVectors.damaged31
+samples-pass = refl
+
+-- The table.
+abbrev pub rows : List Row
+rows = (starred ++ (others ++ (longestRows ++ (limits ++ (vectors ++ (machine ++ (stops ++ (courses ++ samples))))))))
+
+-- Every row passes.
+pub every-row-passes : every passes rows ≡ true
+every-row-passes =
+    both starred _ starred-pass (both others _ others-pass (both longestRows _ longestRows-pass (both limits _ limits-pass (both vectors _ vectors-pass (both machine _ machine-pass (both stops _ stops-pass (both courses _ courses-pass (samples-pass))))))))

@@ -1,0 +1,3 @@
+pub mod ExampleTexts
+pub mod ExampleVectors
+pub mod Examples
