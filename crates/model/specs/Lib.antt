@@ -11,7 +11,10 @@ pub mod Graph
 pub mod Vector
 pub mod Image
 pub mod Tables
+pub mod Service
 pub mod Message
 pub mod Lock
+pub mod Undo
+pub mod Alone
 pub mod Machine
 pub mod Course

@@ -11,6 +11,8 @@ use Rattle.model.specs.Expression.{Expression, valueOf}
 use Rattle.model.specs.Form.{Action, assign, send, sendPrefixed, reply, Statement}
 use Rattle.model.specs.Library.{classAt, classNumber, memberPlace, bodyOf}
 use Rattle.model.specs.Vector.{Program}
+use Rattle.model.specs.Service
+pub use Rattle.model.specs.Service.{goes, ends, stops}
 
 -- "one target: an object; a class's own objects; or a class's domain (it and all descendants)"
 pub data Target : Type 0 where
@@ -113,11 +115,8 @@ visit p m os sum = record { message = m; objects = os; activations = firstActiva
 abbrev pub begun : Program → Message → Run
 begun p m = visit p m (visited p (m .target)) 0
 
--- What a step comes to: the message goes on, or ends with its answer, or is stopped.
-pub data Outcome : Type 0 where
-  goes : Run → Effect → Outcome
-  ends : ℕ → Effect → Outcome
-  stops : Outcome
+abbrev pub Outcome : Type 0
+Outcome = Service.Outcome Run Effect
 
 -- One step more on the same object.
 abbrev pub onward : Run → List Activation → Effect → Outcome

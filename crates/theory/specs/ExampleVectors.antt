@@ -3,8 +3,7 @@
 use Prim.Native.Nat.{ℕ}
 use mathlib.Core.List.{List, [], _∷_, _++_}
 use Rattle.model.specs.Base.{bytes}
-use Rattle.model.specs.Message.{object, class, domain}
-use Rattle.model.specs.Machine.{Call, begin, send, step, commit, abort, Answer, done, going, answer, refuse, held, stopped}
+use Rattle.model.specs.Machine.{object, class, domain, to, Call, begin, send, step, commit, abort, Answer, done, going, answer, refuse, held, stopped}
 use Rattle.theory.specs.ExampleTexts.{text}
 
 unfoldable pub text1 : List ℕ
@@ -188,9 +187,9 @@ damaged31 = text
 
 abbrev pub calls49 : List Call
 calls49 =
-    begin 5 ∷ begin 4 ∷ begin 1 ∷ begin 6 ∷ send 4 (domain 1) 0 3 ∷ send 5 (domain 1) 0 5 ∷ step 5 ∷ step 4 ∷
-    send 6 (domain 1) 0 9 ∷ send 5 (object 0) 0 892839940 ∷ begin 3 ∷ step 6 ∷ send 3 (object 0) 0 2 ∷ step 3 ∷
-    send 1 (domain 1) 0 0 ∷ begin 7 ∷ begin 0 ∷ send 0 (object 0) 99 4 ∷ send 0 (domain 1) 0 9 ∷ []
+    begin 5 ∷ begin 4 ∷ begin 1 ∷ begin 6 ∷ send 4 (to (domain 1) 0 3) ∷ send 5 (to (domain 1) 0 5) ∷ step 5 ∷ step 4 ∷
+    send 6 (to (domain 1) 0 9) ∷ send 5 (to (object 0) 0 892839940) ∷ begin 3 ∷ step 6 ∷ send 3 (to (object 0) 0 2) ∷ step 3 ∷
+    send 1 (to (domain 1) 0 0) ∷ begin 7 ∷ begin 0 ∷ send 0 (to (object 0) 99 4) ∷ send 0 (to (domain 1) 0 9) ∷ []
 
 abbrev pub answers49 : List Answer
 answers49 =
@@ -202,9 +201,9 @@ fields49 = 0 ∷ 0 ∷ 0 ∷ []
 
 abbrev pub calls1 : List Call
 calls1 =
-    begin 3 ∷ begin 7 ∷ send 7 (class 1) 1 5 ∷ begin 6 ∷ begin 4 ∷ send 3 (object 1) 0 2 ∷ commit 6 ∷ step 3 ∷ step 3 ∷
-    begin 0 ∷ begin 6 ∷ send 4 (object 0) 1 2 ∷ begin 1 ∷ send 4 (object 1) 1 7 ∷ step 4 ∷ step 4 ∷
-    send 1 (class 99) 0 3371205371 ∷ send 1 (object 1) 1 8 ∷ step 1 ∷ step 1 ∷ send 3 (object 0) 2 5 ∷ []
+    begin 3 ∷ begin 7 ∷ send 7 (to (class 1) 1 5) ∷ begin 6 ∷ begin 4 ∷ send 3 (to (object 1) 0 2) ∷ commit 6 ∷ step 3 ∷ step 3 ∷
+    begin 0 ∷ begin 6 ∷ send 4 (to (object 0) 1 2) ∷ begin 1 ∷ send 4 (to (object 1) 1 7) ∷ step 4 ∷ step 4 ∷
+    send 1 (to (class 99) 0 3371205371) ∷ send 1 (to (object 1) 1 8) ∷ step 1 ∷ step 1 ∷ send 3 (to (object 0) 2 5) ∷ []
 
 abbrev pub answers1 : List Answer
 answers1 =
@@ -216,12 +215,12 @@ fields1 = 9 ∷ 0 ∷ 0 ∷ 0 ∷ 0 ∷ []
 
 abbrev pub calls17 : List Call
 calls17 =
-    begin 6 ∷ begin 4 ∷ begin 5 ∷ begin 3 ∷ send 3 (object 0) 1 3 ∷ begin 2 ∷ begin 7 ∷ send 5 (class 0) 8 5 ∷
-    send 4 (class 0) 0 0 ∷ commit 4 ∷ begin 1 ∷ send 7 (domain 99) 0 5 ∷ send 7 (object 0) 11 1705385192 ∷ step 3 ∷
-    step 3 ∷ commit 0 ∷ send 3 (domain 0) 7 8 ∷ send 3 (class 0) 99 1 ∷ send 6 (object 0) 9 65535 ∷ begin 4 ∷
-    send 3 (object 0) 8 9 ∷ begin 0 ∷ commit 3 ∷ commit 2 ∷ send 4 (object 0) 5 0 ∷ step 5 ∷ step 5 ∷ step 5 ∷
-    send 6 (object 0) 10 6 ∷ step 4 ∷ begin 2 ∷ send 1 (object 0) 8 2 ∷ send 1 (object 0) 15 1 ∷ commit 4 ∷ commit 7 ∷
-    send 0 (class 0) 14 0 ∷ []
+    begin 6 ∷ begin 4 ∷ begin 5 ∷ begin 3 ∷ send 3 (to (object 0) 1 3) ∷ begin 2 ∷ begin 7 ∷ send 5 (to (class 0) 8 5) ∷
+    send 4 (to (class 0) 0 0) ∷ commit 4 ∷ begin 1 ∷ send 7 (to (domain 99) 0 5) ∷ send 7 (to (object 0) 11 1705385192) ∷ step 3 ∷
+    step 3 ∷ commit 0 ∷ send 3 (to (domain 0) 7 8) ∷ send 3 (to (class 0) 99 1) ∷ send 6 (to (object 0) 9 65535) ∷ begin 4 ∷
+    send 3 (to (object 0) 8 9) ∷ begin 0 ∷ commit 3 ∷ commit 2 ∷ send 4 (to (object 0) 5 0) ∷ step 5 ∷ step 5 ∷ step 5 ∷
+    send 6 (to (object 0) 10 6) ∷ step 4 ∷ begin 2 ∷ send 1 (to (object 0) 8 2) ∷ send 1 (to (object 0) 15 1) ∷ commit 4 ∷ commit 7 ∷
+    send 0 (to (class 0) 14 0) ∷ []
 
 abbrev pub answers17 : List Answer
 answers17 =
@@ -234,14 +233,14 @@ fields17 = 0 ∷ 0 ∷ 0 ∷ 695654021 ∷ 0 ∷ 0 ∷ []
 
 abbrev pub calls47 : List Call
 calls47 =
-    begin 2 ∷ begin 7 ∷ send 7 (object 1) 0 65536 ∷ abort 7 ∷ begin 6 ∷ send 2 (object 1) 2 2 ∷ begin 3 ∷ step 2 ∷
-    step 2 ∷ step 2 ∷ begin 2 ∷ send 3 (object 2) 0 5 ∷ send 6 (class 0) 99 4294967294 ∷ step 3 ∷ step 3 ∷
-    send 3 (object 2) 1 2558904618 ∷ send 6 (object 1) 2 4 ∷ begin 7 ∷ step 2 ∷ step 2 ∷ step 6 ∷ step 6 ∷ step 6 ∷
-    step 3 ∷ step 3 ∷ step 3 ∷ step 3 ∷ step 3 ∷ step 6 ∷ step 6 ∷ send 7 (class 0) 1 937623527 ∷
-    send 7 (object 2) 99 2147483648 ∷ send 7 (class 0) 0 1985466407 ∷ step 2 ∷ step 2 ∷ step 2 ∷ begin 2 ∷ commit 7 ∷
-    step 6 ∷ step 6 ∷ step 6 ∷ send 2 (object 2) 2 7 ∷ commit 7 ∷ begin 7 ∷ begin 6 ∷ send 2 (object 1) 2 8 ∷
-    send 3 (class 0) 1 3252231986 ∷ step 2 ∷ step 2 ∷ abort 7 ∷ step 2 ∷ step 2 ∷ step 2 ∷ send 6 (object 2) 2 9 ∷
-    send 6 (object 2) 0 7 ∷ commit 6 ∷ begin 6 ∷ []
+    begin 2 ∷ begin 7 ∷ send 7 (to (object 1) 0 65536) ∷ abort 7 ∷ begin 6 ∷ send 2 (to (object 1) 2 2) ∷ begin 3 ∷ step 2 ∷
+    step 2 ∷ step 2 ∷ begin 2 ∷ send 3 (to (object 2) 0 5) ∷ send 6 (to (class 0) 99 4294967294) ∷ step 3 ∷ step 3 ∷
+    send 3 (to (object 2) 1 2558904618) ∷ send 6 (to (object 1) 2 4) ∷ begin 7 ∷ step 2 ∷ step 2 ∷ step 6 ∷ step 6 ∷ step 6 ∷
+    step 3 ∷ step 3 ∷ step 3 ∷ step 3 ∷ step 3 ∷ step 6 ∷ step 6 ∷ send 7 (to (class 0) 1 937623527) ∷
+    send 7 (to (object 2) 99 2147483648) ∷ send 7 (to (class 0) 0 1985466407) ∷ step 2 ∷ step 2 ∷ step 2 ∷ begin 2 ∷ commit 7 ∷
+    step 6 ∷ step 6 ∷ step 6 ∷ send 2 (to (object 2) 2 7) ∷ commit 7 ∷ begin 7 ∷ begin 6 ∷ send 2 (to (object 1) 2 8) ∷
+    send 3 (to (class 0) 1 3252231986) ∷ step 2 ∷ step 2 ∷ abort 7 ∷ step 2 ∷ step 2 ∷ step 2 ∷ send 6 (to (object 2) 2 9) ∷
+    send 6 (to (object 2) 0 7) ∷ commit 6 ∷ begin 6 ∷ []
 
 abbrev pub answers47 : List Answer
 answers47 =
@@ -256,23 +255,23 @@ fields47 = 0 ∷ 0 ∷ 0 ∷ []
 
 abbrev pub calls56 : List Call
 calls56 =
-    begin 2 ∷ begin 0 ∷ begin 4 ∷ begin 6 ∷ commit 6 ∷ send 0 (class 0) 2 5 ∷ step 0 ∷ begin 6 ∷ abort 6 ∷ begin 6 ∷
-    send 4 (object 0) 0 6 ∷ send 4 (class 0) 0 4 ∷ send 6 (class 0) 0 5 ∷ send 4 (class 0) 1 9 ∷ step 4 ∷
-    send 6 (object 0) 1 1 ∷ step 6 ∷ step 0 ∷ step 0 ∷ commit 2 ∷ step 4 ∷ begin 2 ∷ send 6 (object 0) 2 7 ∷ step 4 ∷
-    step 0 ∷ send 4 (class 99) 0 2 ∷ send 2 (class 0) 2 5 ∷ send 4 (class 0) 0 2 ∷ step 2 ∷ step 0 ∷
-    send 4 (class 99) 0 2 ∷ step 6 ∷ step 6 ∷ send 4 (object 0) 0 0 ∷ commit 4 ∷ step 6 ∷ begin 4 ∷
-    send 6 (class 99) 0 9 ∷ send 6 (object 0) 0 5 ∷ step 0 ∷ step 0 ∷ step 0 ∷ send 6 (class 0) 2 2 ∷ step 0 ∷
-    send 0 (object 0) 2 2147483647 ∷ step 0 ∷ step 2 ∷ step 0 ∷ step 6 ∷ step 0 ∷ send 4 (domain 99) 0 8 ∷ step 2 ∷
-    step 6 ∷ step 2 ∷ send 4 (domain 0) 2 0 ∷ send 0 (class 0) 0 255 ∷ step 4 ∷ step 4 ∷ step 2 ∷ commit 0 ∷ step 6 ∷
-    step 6 ∷ begin 0 ∷ commit 4294967295 ∷ step 6 ∷ step 2 ∷ step 2 ∷ send 0 (domain 0) 2 5 ∷ step 6 ∷ step 6 ∷ step 2 ∷
-    step 4 ∷ step 0 ∷ step 6 ∷ step 2 ∷ send 2 (object 0) 0 0 ∷ step 4 ∷ step 4 ∷ step 0 ∷ step 0 ∷ step 4 ∷
-    send 2 (domain 99) 0 7 ∷ step 0 ∷ step 0 ∷ step 4 ∷ step 4 ∷ step 0 ∷ step 4 ∷ step 6 ∷ send 6 (domain 0) 2 2 ∷
-    step 0 ∷ step 0 ∷ step 6 ∷ step 6 ∷ step 0 ∷ send 0 (domain 99) 0 2 ∷ send 2 (object 0) 99 7 ∷
-    send 0 (class 0) 99 2 ∷ send 4 (object 0) 0 3412130738 ∷ step 6 ∷ send 0 (object 0) 0 0 ∷ send 4 (object 0) 2 8 ∷
-    send 0 (object 99) 0 0 ∷ send 2 (object 0) 0 8 ∷ send 2 (class 0) 2 3 ∷ step 6 ∷ step 2 ∷ step 4 ∷ abort 0 ∷ step 4 ∷
-    step 2 ∷ step 6 ∷ step 2 ∷ step 6 ∷ send 6 (domain 99) 0 2326118403 ∷ step 4 ∷ send 4 (object 0) 0 5 ∷
-    send 4 (object 99) 0 4 ∷ step 6 ∷ send 4 (object 0) 1 1 ∷ step 2 ∷ step 2 ∷ step 6 ∷ step 2 ∷ step 6 ∷ step 4 ∷
-    send 4 (class 0) 0 0 ∷ begin 0 ∷ send 6 (object 0) 1 3 ∷ send 0 (class 99) 0 1107948224 ∷ step 6 ∷ begin 2 ∷ []
+    begin 2 ∷ begin 0 ∷ begin 4 ∷ begin 6 ∷ commit 6 ∷ send 0 (to (class 0) 2 5) ∷ step 0 ∷ begin 6 ∷ abort 6 ∷ begin 6 ∷
+    send 4 (to (object 0) 0 6) ∷ send 4 (to (class 0) 0 4) ∷ send 6 (to (class 0) 0 5) ∷ send 4 (to (class 0) 1 9) ∷ step 4 ∷
+    send 6 (to (object 0) 1 1) ∷ step 6 ∷ step 0 ∷ step 0 ∷ commit 2 ∷ step 4 ∷ begin 2 ∷ send 6 (to (object 0) 2 7) ∷ step 4 ∷
+    step 0 ∷ send 4 (to (class 99) 0 2) ∷ send 2 (to (class 0) 2 5) ∷ send 4 (to (class 0) 0 2) ∷ step 2 ∷ step 0 ∷
+    send 4 (to (class 99) 0 2) ∷ step 6 ∷ step 6 ∷ send 4 (to (object 0) 0 0) ∷ commit 4 ∷ step 6 ∷ begin 4 ∷
+    send 6 (to (class 99) 0 9) ∷ send 6 (to (object 0) 0 5) ∷ step 0 ∷ step 0 ∷ step 0 ∷ send 6 (to (class 0) 2 2) ∷ step 0 ∷
+    send 0 (to (object 0) 2 2147483647) ∷ step 0 ∷ step 2 ∷ step 0 ∷ step 6 ∷ step 0 ∷ send 4 (to (domain 99) 0 8) ∷ step 2 ∷
+    step 6 ∷ step 2 ∷ send 4 (to (domain 0) 2 0) ∷ send 0 (to (class 0) 0 255) ∷ step 4 ∷ step 4 ∷ step 2 ∷ commit 0 ∷ step 6 ∷
+    step 6 ∷ begin 0 ∷ commit 4294967295 ∷ step 6 ∷ step 2 ∷ step 2 ∷ send 0 (to (domain 0) 2 5) ∷ step 6 ∷ step 6 ∷ step 2 ∷
+    step 4 ∷ step 0 ∷ step 6 ∷ step 2 ∷ send 2 (to (object 0) 0 0) ∷ step 4 ∷ step 4 ∷ step 0 ∷ step 0 ∷ step 4 ∷
+    send 2 (to (domain 99) 0 7) ∷ step 0 ∷ step 0 ∷ step 4 ∷ step 4 ∷ step 0 ∷ step 4 ∷ step 6 ∷ send 6 (to (domain 0) 2 2) ∷
+    step 0 ∷ step 0 ∷ step 6 ∷ step 6 ∷ step 0 ∷ send 0 (to (domain 99) 0 2) ∷ send 2 (to (object 0) 99 7) ∷
+    send 0 (to (class 0) 99 2) ∷ send 4 (to (object 0) 0 3412130738) ∷ step 6 ∷ send 0 (to (object 0) 0 0) ∷ send 4 (to (object 0) 2 8) ∷
+    send 0 (to (object 99) 0 0) ∷ send 2 (to (object 0) 0 8) ∷ send 2 (to (class 0) 2 3) ∷ step 6 ∷ step 2 ∷ step 4 ∷ abort 0 ∷ step 4 ∷
+    step 2 ∷ step 6 ∷ step 2 ∷ step 6 ∷ send 6 (to (domain 99) 0 2326118403) ∷ step 4 ∷ send 4 (to (object 0) 0 5) ∷
+    send 4 (to (object 99) 0 4) ∷ step 6 ∷ send 4 (to (object 0) 1 1) ∷ step 2 ∷ step 2 ∷ step 6 ∷ step 2 ∷ step 6 ∷ step 4 ∷
+    send 4 (to (class 0) 0 0) ∷ begin 0 ∷ send 6 (to (object 0) 1 3) ∷ send 0 (to (class 99) 0 1107948224) ∷ step 6 ∷ begin 2 ∷ []
 
 abbrev pub answers56 : List Answer
 answers56 =

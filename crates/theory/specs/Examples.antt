@@ -16,8 +16,7 @@ use Rattle.model.specs.Read.{verdict, library}
 use Rattle.model.specs.Vector.{joinedVector}
 use Rattle.model.specs.Image.{image, u32Bytes, startingValues, startingValuesInto, statementPart, statementRefusal, compileRefusal, compiledInto, valuesRefusal}
 use Rattle.model.specs.Tables.{printed, letters}
-use Rattle.model.specs.Message.{object, class, domain}
-use Rattle.model.specs.Machine.{Call, begin, send, step, commit, abort, Answer, done, going, answer, refuse, held, stopped, played}
+use Rattle.model.specs.Machine.{object, class, domain, to, Call, begin, send, step, commit, abort, Answer, done, going, answer, refuse, held, stopped, played}
 use Rattle.model.specs.Course.{Compared, course}
 use Rattle.theory.specs.ExampleTexts.{text, lanes, figure1, endless, diamond, circle, prefixed, mixed, long, withFields, withMethods, withClasses, withObjects, withStatements, saying, longest}
 use Rattle.theory.specs.ExampleVectors
@@ -123,16 +122,16 @@ starred =
     values "- 0 1" 4294967295 ∷
     values "* 65536 65536" 0 ∷
     values "< 0 4294967295" 1 ∷
-    plays lanes (begin 0 ∷ begin 1 ∷ begin 2 ∷ send 0 (object 0) 0 0 ∷ send 1 (object 0) 1 0 ∷ send 2 (object 0) 2 0 ∷ [])
+    plays lanes (begin 0 ∷ begin 1 ∷ begin 2 ∷ send 0 (to (object 0) 0 0) ∷ send 1 (to (object 0) 1 0) ∷ send 2 (to (object 0) 2 0) ∷ [])
     (done ∷ done ∷ done ∷ done ∷ done ∷ held 0 ∷ []) (0 ∷ 0 ∷ 0 ∷ []) ∷
-    plays lanes (begin 0 ∷ send 0 (object 0) 0 40 ∷ step 0 ∷ step 0 ∷ step 0 ∷ step 0 ∷ step 0 ∷ send 0 (object 0) 2 0 ∷ [])
+    plays lanes (begin 0 ∷ send 0 (to (object 0) 0 40) ∷ step 0 ∷ step 0 ∷ step 0 ∷ step 0 ∷ step 0 ∷ send 0 (to (object 0) 2 0) ∷ [])
     (done ∷ done ∷ going ∷ going ∷ going ∷ going ∷ answer 0 ∷ done ∷ []) (1 ∷ 0 ∷ 40 ∷ []) ∷
-    plays lanes (begin 0 ∷ send 0 (object 0) 2 5 ∷ step 0 ∷ step 0 ∷ send 0 (object 0) 2 5 ∷ step 0 ∷ step 0 ∷ [])
+    plays lanes (begin 0 ∷ send 0 (to (object 0) 2 5) ∷ step 0 ∷ step 0 ∷ send 0 (to (object 0) 2 5) ∷ step 0 ∷ step 0 ∷ [])
     (done ∷ done ∷ going ∷ answer 0 ∷ done ∷ going ∷ answer 0 ∷ []) (0 ∷ 0 ∷ 10 ∷ []) ∷
-    plays lanes (begin 0 ∷ send 0 (object 0) 2 5 ∷ step 0 ∷ step 0 ∷ send 0 (object 0) 2 5 ∷ step 0 ∷ step 0 ∷ abort 0 ∷ [])
+    plays lanes (begin 0 ∷ send 0 (to (object 0) 2 5) ∷ step 0 ∷ step 0 ∷ send 0 (to (object 0) 2 5) ∷ step 0 ∷ step 0 ∷ abort 0 ∷ [])
     (done ∷ done ∷ going ∷ answer 0 ∷ done ∷ going ∷ answer 0 ∷ done ∷ []) (0 ∷ 0 ∷ 0 ∷ []) ∷
-    plays lanes (begin 1 ∷ send 1 (object 0) 1 0 ∷ begin 0 ∷ send 0 (class 1) 0 0 ∷ []) (done ∷ done ∷ done ∷ done ∷ []) (0 ∷ 0 ∷ 0 ∷ []) ∷
-    plays endless (begin 0 ∷ send 0 (object 0) 0 0 ∷ replicate 8 (step 0)) (done ∷ done ∷ replicate 7 going ++ (stopped ∷ [])) [] ∷ []
+    plays lanes (begin 1 ∷ send 1 (to (object 0) 1 0) ∷ begin 0 ∷ send 0 (to (class 1) 0 0) ∷ []) (done ∷ done ∷ done ∷ done ∷ []) (0 ∷ 0 ∷ 0 ∷ []) ∷
+    plays endless (begin 0 ∷ send 0 (to (object 0) 0 0) ∷ replicate 8 (step 0)) (done ∷ done ∷ replicate 7 going ++ (stopped ∷ [])) [] ∷ []
 
 -- The examples without a star.
 abbrev others : List Row
@@ -216,34 +215,34 @@ vectors =
 -- In `mixed` the methods of a and b are g 0 and h 1; the objects are a's, b's and a's again.
 abbrev machine : List Row
 machine =
-    plays mixed (begin 0 ∷ send 0 (domain 0) 0 3 ∷ replicate 12 (step 0))
+    plays mixed (begin 0 ∷ send 0 (to (domain 0) 0 3) ∷ replicate 12 (step 0))
     (done ∷ done ∷ replicate 11 going ++ (answer 18 ∷ [])) (8 ∷ 7 ∷ 3 ∷ 2 ∷ []) ∷
-    plays mixed (begin 0 ∷ send 0 (domain 0) 0 3 ∷ begin 1 ∷ send 1 (object 1) 1 0 ∷ send 1 (object 0) 1 0 ∷ [])
+    plays mixed (begin 0 ∷ send 0 (to (domain 0) 0 3) ∷ begin 1 ∷ send 1 (to (object 1) 1 0) ∷ send 1 (to (object 0) 1 0) ∷ [])
     (done ∷ done ∷ done ∷ done ∷ refuse 34 ∷ []) (5 ∷ 7 ∷ 0 ∷ 4294967295 ∷ []) ∷
-    plays mixed (begin 1 ∷ send 1 (class 2) 0 0 ∷ commit 1 ∷ step 1 ∷ step 1 ∷ commit 1 ∷ commit 1 ∷ [])
+    plays mixed (begin 1 ∷ send 1 (to (class 2) 0 0) ∷ commit 1 ∷ step 1 ∷ step 1 ∷ commit 1 ∷ commit 1 ∷ [])
     (done ∷ done ∷ refuse 34 ∷ answer 0 ∷ refuse 35 ∷ done ∷ refuse 32 ∷ []) (5 ∷ 7 ∷ 0 ∷ 4294967295 ∷ []) ∷
-    plays mixed (begin 8 ∷ begin 7 ∷ begin 7 ∷ step 6 ∷ send 7 (object 3) 0 0 ∷ send 7 (class 3) 0 0 ∷ send 7 (object 0) 2 0 ∷ abort 7 ∷ abort 7 ∷ [])
+    plays mixed (begin 8 ∷ begin 7 ∷ begin 7 ∷ step 6 ∷ send 7 (to (object 3) 0 0) ∷ send 7 (to (class 3) 0 0) ∷ send 7 (to (object 0) 2 0) ∷ abort 7 ∷ abort 7 ∷ [])
     (refuse 31 ∷ done ∷ refuse 33 ∷ refuse 32 ∷ refuse 36 ∷ refuse 36 ∷ refuse 36 ∷ done ∷ refuse 32 ∷ []) (5 ∷ 7 ∷ 0 ∷ 4294967295 ∷ []) ∷
     plays mixed
-    (begin 0 ∷ begin 3 ∷ send 0 (object 2) 0 1 ∷ step 0 ∷ step 0 ∷ step 0 ∷ send 3 (object 2) 1 0 ∷ send 3 (class 0) 1 0 ∷ commit 0 ∷ send 3 (object 2) 1 0 ∷ [])
+    (begin 0 ∷ begin 3 ∷ send 0 (to (object 2) 0 1) ∷ step 0 ∷ step 0 ∷ step 0 ∷ send 3 (to (object 2) 1 0) ∷ send 3 (to (class 0) 1 0) ∷ commit 0 ∷ send 3 (to (object 2) 1 0) ∷ [])
     (done ∷ done ∷ done ∷ going ∷ going ∷ answer 0 ∷ held 0 ∷ held 0 ∷ done ∷ done ∷ []) (5 ∷ 7 ∷ 0 ∷ 0 ∷ []) ∷
     plays mixed
-    (begin 5 ∷ send 5 (object 1) 0 9 ∷ step 5 ∷ step 5 ∷ begin 2 ∷ send 2 (domain 0) 0 1 ∷ send 2 (class 0) 0 1 ∷ step 2 ∷ abort 2 ∷ abort 5 ∷ [])
+    (begin 5 ∷ send 5 (to (object 1) 0 9) ∷ step 5 ∷ step 5 ∷ begin 2 ∷ send 2 (to (domain 0) 0 1) ∷ send 2 (to (class 0) 0 1) ∷ step 2 ∷ abort 2 ∷ abort 5 ∷ [])
     (done ∷ done ∷ going ∷ going ∷ done ∷ held 5 ∷ done ∷ going ∷ done ∷ done ∷ []) (5 ∷ 7 ∷ 0 ∷ 4294967295 ∷ []) ∷
     []
 
 -- A message of 1,024 steps, and one of a step more.
 abbrev stops : List Row
 stops =
-    plays long (begin 0 ∷ send 0 (object 0) 1 0 ∷ replicate 1024 (step 0)) (done ∷ done ∷ replicate 1023 going ++ (answer 0 ∷ [])) (961 ∷ []) ∷
-    plays long (begin 0 ∷ send 0 (object 0) 2 0 ∷ replicate 1025 (step 0)) (done ∷ done ∷ replicate 1023 going ++ (stopped ∷ refuse 32 ∷ [])) (0 ∷ []) ∷ []
+    plays long (begin 0 ∷ send 0 (to (object 0) 1 0) ∷ replicate 1024 (step 0)) (done ∷ done ∷ replicate 1023 going ++ (answer 0 ∷ [])) (961 ∷ []) ∷
+    plays long (begin 0 ∷ send 0 (to (object 0) 2 0) ∷ replicate 1025 (step 0)) (done ∷ done ∷ replicate 1023 going ++ (stopped ∷ refuse 32 ∷ [])) (0 ∷ []) ∷ []
 
 -- A list that leaves nothing open, against the plain course.
 abbrev courses : List Row
 courses =
     agrees mixed
-    (begin 0 ∷ begin 1 ∷ send 0 (object 0) 0 1 ∷ send 1 (class 1) 0 2 ∷ step 0 ∷ step 1 ∷ step 1 ∷ step 0 ∷ step 1 ∷ step 1 ∷ step 0 ∷ step 1 ∷ step 1 ∷
-    commit 1 ∷ send 0 (domain 0) 0 4 ∷ replicate 12 (step 0) ++ (commit 0 ∷ begin 0 ∷ send 0 (object 0) 0 7 ∷ step 0 ∷ abort 0 ∷ [])) ∷ []
+    (begin 0 ∷ begin 1 ∷ send 0 (to (object 0) 0 1) ∷ send 1 (to (class 1) 0 2) ∷ step 0 ∷ step 1 ∷ step 1 ∷ step 0 ∷ step 1 ∷ step 1 ∷ step 0 ∷ step 1 ∷ step 1 ∷
+    commit 1 ∷ send 0 (to (domain 0) 0 4) ∷ replicate 12 (step 0) ++ (commit 0 ∷ begin 0 ∷ send 0 (to (object 0) 0 7) ∷ step 0 ∷ abort 0 ∷ [])) ∷ []
 
 abbrev samples : List Row
 samples =

@@ -1,0 +1,310 @@
+-- The machine's slots and calls, and the plain course, over any kind of messages, locks and undo (01, "The machine", "The
+-- plain course", the numbers 31 to 41). What 01 says of messages, locks and undo themselves is in Message, Lock, Undo and
+-- Alone; Machine puts the two together.
+use Prim.Native.Nat.{ℕ}
+use mathlib.Core.Bool.{Bool, true, false, not, _&&_}
+use mathlib.Core.Option.{Option, none, some}
+use mathlib.Core.List.{List, [], _∷_, _++_}
+use lib.Dec.{eqb, ltb}
+use Rattle.model.specs.Base.{put, least}
+
+-- What a step comes to: the message goes on, or ends with its answer, or is stopped.
+pub data Outcome (Run Effect : Type 0) : Type 0 where
+  goes : Run → Effect → Outcome Run Effect
+  ends : ℕ → Effect → Outcome Run Effect
+  stops : Outcome Run Effect
+
+-- What slots and calls need of messages, locks and undo. A step does not change the fields itself: it has an effect, and the
+-- effect acts on them.
+pub record Service : Type 1 where
+  -- the fields' values
+  pub Fields : Type 0
+  -- what a send names
+  pub Request : Type 0
+  -- a send whose target and method exist
+  pub Message : Type 0
+  -- a running message
+  pub Run : Type 0
+  -- what a step does to the fields
+  pub Effect : Type 0
+  -- what a transaction notes so as to undo its effects
+  pub Undo : Type 0
+  -- the locks that a transaction holds
+  pub Locks : Type 0
+  -- the message that a send is; none where its target or method does not exist
+  pub find : Request → Option Message
+  -- a message at its start
+  pub begun : Message → Run
+  -- one step of a running message
+  pub turn : Run → Fields → Outcome Run Effect
+  -- the fields after an effect
+  pub act : Effect → Fields → Fields
+  -- the notes at begin
+  pub clean : Undo
+  -- the notes after an effect on the fields
+  pub noted : Undo → Effect → Fields → Undo
+  -- the fields with all that was noted put back
+  pub putBack : Undo → Fields → Fields
+  -- the locks at begin
+  pub unlocked : Locks
+  -- the locks with those of a message added
+  pub lock : Message → Locks → Locks
+  -- a lock of the message clashes with one of these
+  pub clash : Message → Locks → Bool
+  -- the course's run of one send: its answer and the fields after it; none where it would be stopped
+  pub alone : Message → Fields → Option (ℕ × Fields)
+
+-- "Calls: begin, send, step, commit, abort." Each names a slot.
+pub data Call (Request : Type 0) : Type 0 where
+  begin : ℕ → Call Request
+  send : ℕ → Request → Call Request
+  step commit abort : ℕ → Call Request
+
+-- What a call answers: done (a send: granted), "going", the message's answer, a tablet's number 31 to 36, 40 with the lowest
+-- clashing slot, or 41.
+pub data Answer : Type 0 where
+  done going : Answer
+  answer : ℕ → Answer
+  refuse : ℕ → Answer
+  held : ℕ → Answer
+  stopped : Answer
+
+-- An answer in a slot's list at its commit, beside the one that its run gives.
+pub record Compared : Type 0 where
+  pub got : ℕ
+  pub run : Option ℕ
+
+module _ (𝓢 : Service) where
+  open Service 𝓢 using (Fields, Request, Message, Run, Effect, Undo, Locks, find, begun, turn, act, clean, noted, putBack, unlocked, lock, clash, alone)
+
+  -- ---- the machine
+
+  -- An open transaction: its locks, "held until commit or abort", its undo notes, and the message that runs, if any.
+  pub record Transaction : Type 0 where
+    pub locks : Locks
+    pub undo : Undo
+    pub running : Option Run
+
+  -- "Slots 0 to 7 each hold at most one open transaction"
+  pub data Slot : Type 0 where
+    closed : Slot
+    opened : Transaction → Slot
+
+  -- The whole state of the machine.
+  pub record World : Type 0 where
+    pub fields : Fields
+    pub slots : ℕ → Slot
+
+  -- The machine after a start: "Start takes the list as it is".
+  abbrev pub fresh : Fields → World
+  fresh fields = record { fields = fields; slots = λ s. closed }
+
+  -- The machine with one slot altered.
+  abbrev pub withSlot : World → ℕ → Slot → World
+  withSlot w s x = record { fields = w .fields; slots = put (w .slots) s x }
+
+  -- "begin opens it"
+  abbrev pub newTransaction : Transaction
+  newTransaction = record { locks = unlocked; undo = clean; running = none }
+
+  -- The locks of a slot.
+  abbrev pub heldBy : Slot → Locks
+  heldBy closed = unlocked
+  heldBy (opened t) = t .locks
+
+  -- Slot t is another than s and holds a lock that clashes with the message.
+  abbrev pub inTheWay : World → ℕ → Message → ℕ → Bool
+  inTheWay w s m t = not (eqb t s) && clash m (heldBy (w .slots t))
+
+  -- "A send clashing with no other slot gets all its locks and starts; otherwise 40 names the lowest clashing slot."
+  abbrev pub granted : World → ℕ → Transaction → Message → Option ℕ → Answer × World
+  granted w s t m (some k) = (held k, w)
+  granted w s t m none =
+      (done, withSlot w s (opened (record { locks = lock m (t .locks); undo = t .undo; running = some (begun m) })))
+
+  -- "36 no such object, class or method"; "40, after 36"
+  abbrev pub sent : World → ℕ → Transaction → Option Message → Answer × World
+  sent w s t none = (refuse 36, w)
+  sent w s t (some m) = granted w s t m (least (inTheWay w s m) 8)
+
+  -- "Abort puts back .. and frees the slot."
+  abbrev pub undone : World → ℕ → Transaction → World
+  undone w s t = record { fields = putBack (t .undo) (w .fields); slots = put (w .slots) s closed }
+
+  -- A transaction after a step's effect, with what then runs.
+  abbrev pub after : World → ℕ → Transaction → Effect → Option Run → World
+  after w s t e r =
+      record {
+        fields = act e (w .fields);
+        slots = put (w .slots) s (opened (record { locks = t .locks; undo = noted (t .undo) e (w .fields); running = r }));
+      }
+
+  -- "A step answers "going" or the message's answer."; "41 .. That step does the work of abort."
+  abbrev pub stepped : World → ℕ → Transaction → Outcome Run Effect → Answer × World
+  stepped w s t (goes r e) = (going, after w s t e (some r))
+  stepped w s t (ends v e) = (answer v, after w s t e none)
+  stepped w s t stops = (stopped, undone w s t)
+
+  -- On a closed slot: "32 slot not open (send, step, commit, abort)"
+  abbrev pub onClosed : World → Call Request → Answer × World
+  onClosed w (begin s) = (done, withSlot w s (opened newTransaction))
+  onClosed w (send s q) = (refuse 32, w)
+  onClosed w (step s) = (refuse 32, w)
+  onClosed w (commit s) = (refuse 32, w)
+  onClosed w (abort s) = (refuse 32, w)
+
+  -- On an open slot where no message runs: 33, "35 no message running (step)"; "Commit frees the slot and leaves the fields."
+  abbrev pub onIdle : World → Transaction → Call Request → Answer × World
+  onIdle w t (begin s) = (refuse 33, w)
+  onIdle w t (send s q) = sent w s t (find q)
+  onIdle w t (step s) = (refuse 35, w)
+  onIdle w t (commit s) = (done, withSlot w s closed)
+  onIdle w t (abort s) = (done, undone w s t)
+
+  -- On an open slot where a message runs: "33 slot open (begin)", "34 message running (send, commit)"
+  abbrev pub onRunning : World → Transaction → Run → Call Request → Answer × World
+  onRunning w t r (begin s) = (refuse 33, w)
+  onRunning w t r (send s q) = (refuse 34, w)
+  onRunning w t r (step s) = stepped w s t (turn r (w .fields))
+  onRunning w t r (commit s) = (refuse 34, w)
+  onRunning w t r (abort s) = (done, undone w s t)
+
+  -- A call on an open slot, by what runs there.
+  abbrev pub onOpen : World → Call Request → Transaction → Option Run → Answer × World
+  onOpen w c t none = onIdle w t c
+  onOpen w c t (some r) = onRunning w t r c
+
+  -- A call, by the state of its slot.
+  abbrev pub onSlot : World → Call Request → Slot → Answer × World
+  onSlot w c closed = onClosed w c
+  onSlot w c (opened t) = onOpen w c t (t .running)
+
+  -- The slot that a call names.
+  abbrev pub slotOf : Call Request → ℕ
+  slotOf (begin s) = s
+  slotOf (send s q) = s
+  slotOf (step s) = s
+  slotOf (commit s) = s
+  slotOf (abort s) = s
+
+  -- "31 slot above 7"
+  abbrev pub inRange : World → Call Request → Bool → Answer × World
+  inRange w c false = (refuse 31, w)
+  inRange w c true = onSlot w c (w .slots (slotOf c))
+
+  -- One call: its answer, and the world after it.
+  abbrev pub call : World → Call Request → Answer × World
+  call w c = inRange w c (ltb (slotOf c) 8)
+
+  -- The answers of a list of calls, and the world after it.
+  unfoldable pub runCalls : World → List (Call Request) → List Answer × World
+  unfolding put least
+  runCalls w [] = ([], w)
+  runCalls w (c ∷ cs) =
+      let (a, next) = call w c in
+      let (answers, last) = runCalls next cs in
+      (a ∷ answers, last)
+
+  -- ---- the plain course
+
+  -- A send with the answer that it got.
+  pub record Answered : Type 0 where
+    pub message : Message
+    pub answer : ℕ
+
+  -- "for each slot a list of sends with answers, empty at first", and the slot's latest send
+  pub record Sends : Type 0 where
+    pub latest : Option Message
+    pub list : List Answered
+
+  -- "It has no locks. It holds fields, and for each slot a list of sends"; beside them the answers compared so far.
+  pub record Course : Type 0 where
+    pub fields : Fields
+    pub slots : ℕ → Sends
+    pub compared : List Compared
+
+  -- A slot's sends at first.
+  abbrev pub noSends : Sends
+  noSends = record { latest = none; list = [] }
+
+  -- The course after a start.
+  abbrev pub startCourse : Fields → Course
+  startCourse fields = record { fields = fields; slots = λ s. noSends; compared = [] }
+
+  -- The course with one slot's sends altered.
+  abbrev pub withSends : Course → ℕ → Sends → Course
+  withSends x s l = record { fields = x .fields; slots = put (x .slots) s l; compared = x .compared }
+
+  -- The fields after a run. One that would be stopped leaves them as they are.
+  abbrev pub fieldsAfter : Option (ℕ × Fields) → Fields → Fields
+  fieldsAfter none fields = fields
+  fieldsAfter (some y) fields = y .1
+
+  -- The answer of a run.
+  abbrev pub answerOf : Option (ℕ × Fields) → Option ℕ
+  answerOf none = none
+  answerOf (some y) = some (y .0)
+
+  -- The fields after the sends of a list, run in order.
+  abbrev pub replayed : List Answered → Fields → Fields
+  replayed [] fields = fields
+  replayed (y ∷ ys) fields = replayed ys (fieldsAfter (alone (y .message) fields) fields)
+
+  -- Each answer of a list beside the one that its run gives.
+  abbrev pub comparedIn : List Answered → Fields → List Compared
+  comparedIn [] fields = []
+  comparedIn (y ∷ ys) fields =
+      let r = alone (y .message) fields in
+      record { got = y .answer; run = answerOf r } ∷ comparedIn ys (fieldsAfter r fields)
+
+  -- "A commit runs the slot's sends in order on the course's fields"
+  abbrev pub committed : Course → ℕ → Course
+  committed x s =
+      record {
+        fields = replayed (x .slots s .list) (x .fields);
+        slots = put (x .slots) s noSends;
+        compared = x .compared ++ comparedIn (x .slots s .list) (x .fields);
+      }
+
+  -- "A granted send becomes its slot's latest send."
+  abbrev pub named : Course → ℕ → Option Message → Course
+  named x s none = x
+  named x s (some m) = withSends x s (record { latest = some m; list = x .slots s .list })
+
+  -- "A step that gives the message's answer adds the latest send and that answer to the slot's list"
+  abbrev pub addAnswer : Course → ℕ → ℕ → Option Message → Course
+  addAnswer x s v none = x
+  addAnswer x s v (some m) = withSends x s (record { latest = some m; list = x .slots s .list ++ (record { message = m; answer = v } ∷ []) })
+
+  -- "Any other refused call does nothing."
+  abbrev pub ifDone : Answer → Course → Course → Course
+  ifDone done x y = y
+  ifDone going x y = x
+  ifDone (answer v) x y = x
+  ifDone (refuse n) x y = x
+  ifDone (held s) x y = x
+  ifDone stopped x y = x
+
+  -- ""going" does nothing"; "Commit, abort and 41 empty the list and close the slot."
+  abbrev pub afterStep : Answer → Course → ℕ → Course
+  afterStep done x s = x
+  afterStep going x s = x
+  afterStep (answer v) x s = addAnswer x s v (x .slots s .latest)
+  afterStep (refuse n) x s = x
+  afterStep (held t) x s = x
+  afterStep stopped x s = withSends x s noSends
+
+  -- The course, fed one call with its answer.
+  abbrev pub fed : Course → Call Request → Answer → Course
+  fed x (begin s) a = ifDone a x (withSends x s noSends)
+  fed x (send s q) a = ifDone a x (named x s (find q))
+  fed x (step s) a = afterStep a x s
+  fed x (commit s) a = ifDone a x (committed x s)
+  fed x (abort s) a = ifDone a x (withSends x s noSends)
+
+  -- "is fed .. the list's calls with their answers"
+  unfoldable pub fedAll : Course → List (Call Request) → List Answer → Course
+  unfolding put
+  fedAll x [] answers = x
+  fedAll x (c ∷ cs) [] = x
+  fedAll x (c ∷ cs) (a ∷ answers) = fedAll (fed x c a) cs answers

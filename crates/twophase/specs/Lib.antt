@@ -1,0 +1,7 @@
+pub mod Base
+pub mod Claims
+pub mod Laws
+pub mod Effects
+pub mod Invariant
+pub mod Preserve
+pub mod Theorem

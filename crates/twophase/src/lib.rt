@@ -1,0 +1,1 @@
+// Two-phase locking in general is definitions and theorems alone: see specs/.
