@@ -1,0 +1,357 @@
+//! The machine: slots, locks, activations, steps, undo.
+
+use crate::syntax::{Action, Expression};
+use crate::text::{Library, Method};
+use crate::vectors::{commute, transitive, Mode};
+use std::collections::{BTreeMap, HashMap, HashSet};
+
+#[derive(Clone, Copy, Debug, PartialEq, Eq)]
+pub enum Target {
+    Object(u32),
+    Class(u32),
+    Domain(u32),
+}
+
+#[derive(Clone, Copy, Debug, PartialEq, Eq)]
+pub enum Call {
+    Begin(u32),
+    Send { slot: u32, target: Target, method: u32, argument: u32 },
+    Step(u32),
+    Commit(u32),
+    Abort(u32),
+}
+
+#[derive(Clone, Copy, Debug, PartialEq, Eq)]
+pub enum Answer {
+    Done,
+    Going,
+    Answer(u32),
+    Refused(u32),
+    Held(u32),
+    Stopped,
+}
+
+/// A send by names: what a message is, whoever runs it.
+#[derive(Clone, Debug, PartialEq, Eq, Hash)]
+pub struct Message {
+    pub objects: Vec<usize>,
+    pub locks: Vec<Lock>,
+    pub method: String,
+    pub argument: u32,
+}
+
+/// A lock: a method on an object, or on a class with the flag that says whether all of it is meant.
+#[derive(Clone, Debug, PartialEq, Eq, Hash)]
+pub enum Lock {
+    Object(usize, String),
+    Class(String, String, bool),
+}
+
+/// An activation: a body, the statement that is next in it, and its three values.
+#[derive(Clone, Debug)]
+struct Activation<'a> {
+    body: &'a Method,
+    next: usize,
+    argument: u32,
+    got: u32,
+    reply: u32,
+}
+
+/// A message on one object.
+#[derive(Clone, Debug)]
+pub struct OnObject<'a> {
+    object: usize,
+    class: &'a str,
+    activations: Vec<Activation<'a>>,
+    steps: u64,
+}
+
+/// What one step on an object comes to.
+pub enum Step {
+    Going,
+    Ended(u32),
+    Stopped,
+}
+
+/// The fields, object by object, each a map from names to values.
+pub type Fields = Vec<BTreeMap<String, u32>>;
+
+fn value(e: &Expression, fields: &BTreeMap<String, u32>, a: &Activation) -> u32 {
+    match e {
+        Expression::Number(n) => *n,
+        Expression::Field(f) => fields[f],
+        Expression::Argument => a.argument,
+        Expression::Got => a.got,
+        Expression::Apply(o, x, y) => {
+            let (x, y) = (value(x, fields, a), value(y, fields, a));
+            match o {
+                b'+' => x.wrapping_add(y),
+                b'-' => x.wrapping_sub(y),
+                b'*' => x.wrapping_mul(y),
+                b'<' => (x < y) as u32,
+                _ => (x == y) as u32,
+            }
+        }
+    }
+}
+
+impl<'a> OnObject<'a> {
+    pub fn new(library: &'a Library, object: usize, message: &Message) -> OnObject<'a> {
+        let class = &library.objects[object].class;
+        let mut run = OnObject { object, class, activations: Vec::new(), steps: 0 };
+        run.open(library, class, &message.method, message.argument);
+        run
+    }
+
+    fn open(&mut self, library: &'a Library, class: &str, method: &str, argument: u32) {
+        let body = library.method(class, method).expect("a known method");
+        self.activations.push(Activation { body, next: 0, argument, got: 0, reply: 0 });
+    }
+
+    /// One step; `set` is told of each field before it is set.
+    pub fn step(&mut self, library: &'a Library, fields: &mut Fields, set: &mut dyn FnMut(usize, &str, u32)) -> Step {
+        self.steps += 1;
+        match self.one(library, fields, set) {
+            Step::Going if self.steps >= 1_024 => Step::Stopped,
+            outcome => outcome,
+        }
+    }
+
+    /// The end of a body: its reply goes to the caller, or the object has ended.
+    fn body_ends(&mut self) -> Step {
+        let reply = self.activations.pop().expect("an activation").reply;
+        match self.activations.last_mut() {
+            Some(caller) => {
+                caller.got = reply;
+                Step::Going
+            }
+            None => Step::Ended(reply),
+        }
+    }
+
+    fn one(&mut self, library: &'a Library, fields: &mut Fields, set: &mut dyn FnMut(usize, &str, u32)) -> Step {
+        let object = self.object;
+        let depth = self.activations.len();
+        let top = self.activations.last_mut().expect("an activation");
+        let placed = match top.body.body.get(top.next) {
+            Some(placed) => placed,
+            None => return self.body_ends(),
+        };
+        top.next += 1;
+        let now = &fields[object];
+        if let Some(guard) = &placed.statement.when {
+            if value(guard, now, top) == 0 {
+                return Step::Going;
+            }
+        }
+        match &placed.statement.action {
+            Action::Set(field, e) => {
+                let new = value(e, now, top);
+                set(object, field, now[field]);
+                fields[object].insert(field.clone(), new);
+            }
+            Action::Reply(e) => {
+                top.reply = value(e, now, top);
+                top.next = top.body.body.len();
+            }
+            Action::Send { class, method, value: e } => {
+                let argument = value(e, now, top);
+                if depth == 8 {
+                    return Step::Stopped;
+                }
+                let class = class.as_deref().unwrap_or(self.class);
+                self.open(library, class, method, argument);
+            }
+        }
+        Step::Going
+    }
+}
+
+#[derive(Clone, Debug, Default)]
+struct Transaction<'a> {
+    locks: HashSet<Lock>,
+    before: HashMap<(usize, String), u32>,
+    message: Option<Message>,
+    on: Option<OnObject<'a>>,
+    left: Vec<usize>,
+    sum: u32,
+}
+
+pub struct Machine<'a> {
+    library: &'a Library,
+    vectors: HashMap<(String, String), Vec<Mode>>,
+    pub fields: Fields,
+    slots: Vec<Option<Transaction<'a>>>,
+}
+
+/// A flat list of values as fields by object and name.
+pub fn fields_of(library: &Library, values: &[u32]) -> Fields {
+    let mut values = values.iter().copied();
+    let of = |class: &str, values: &mut dyn Iterator<Item = u32>| {
+        library.fields(class).into_iter().map(|(_, n)| (n, values.next().expect("a value for each field"))).collect()
+    };
+    library.objects.iter().map(|o| of(&o.class, &mut values)).collect()
+}
+
+/// The flat list back.
+pub fn values_of(library: &Library, fields: &Fields) -> Vec<u32> {
+    let of = |(o, f): (&crate::text::Object, &BTreeMap<String, u32>)| -> Vec<u32> {
+        library.fields(&o.class).iter().map(|(_, n)| f[n]).collect()
+    };
+    library.objects.iter().zip(fields).flat_map(of).collect()
+}
+
+/// The message that a send names, or none (36).
+pub fn message(library: &Library, target: Target, method: u32, argument: u32) -> Option<Message> {
+    let class = match target {
+        Target::Object(o) => &library.objects.get(o as usize)?.class,
+        Target::Class(c) | Target::Domain(c) => &library.classes.get(c as usize)?.name,
+    };
+    let method = library.methods(class).get(method as usize)?.clone();
+    let visits = |chosen: &dyn Fn(&str) -> bool| {
+        (0..library.objects.len()).filter(|&o| chosen(&library.objects[o].class)).collect::<Vec<usize>>()
+    };
+    let (objects, locks) = match target {
+        Target::Object(o) => {
+            let o = o as usize;
+            (vec![o], vec![Lock::Object(o, method.clone()), Lock::Class(class.clone(), method.clone(), false)])
+        }
+        Target::Class(_) => (visits(&|c| c == class), vec![Lock::Class(class.clone(), method.clone(), true)]),
+        Target::Domain(_) => {
+            let inside = |c: &str| c == class || library.is_ancestor(class, c);
+            let classes = library.classes.iter().filter(|c| inside(&c.name));
+            (visits(&inside), classes.map(|c| Lock::Class(c.name.clone(), method.clone(), true)).collect())
+        }
+    };
+    Some(Message { objects, locks, method, argument })
+}
+
+impl<'a> Machine<'a> {
+    /// The machine after a start, or none where the values are of another count than the fields (22).
+    pub fn start(library: &'a Library, values: &[u32]) -> Option<Machine<'a>> {
+        if values.len() != library.starting_values().len() {
+            return None;
+        }
+        let mut vectors = HashMap::new();
+        for class in &library.classes {
+            for method in library.methods(&class.name) {
+                let vector = transitive(library, &class.name, &method);
+                vectors.insert((class.name.clone(), method), vector);
+            }
+        }
+        Some(Machine { library, vectors, fields: fields_of(library, values), slots: vec![None; 8] })
+    }
+
+    pub fn values(&self) -> Vec<u32> {
+        values_of(self.library, &self.fields)
+    }
+
+    pub fn idle(&self) -> bool {
+        self.slots.iter().all(|s| s.is_none())
+    }
+
+    fn commute(&self, class: &str, a: &str, b: &str) -> bool {
+        let vector = |m: &str| &self.vectors[&(class.to_string(), m.to_string())];
+        commute(vector(a), vector(b))
+    }
+
+    fn clash(&self, a: &Lock, b: &Lock) -> bool {
+        match (a, b) {
+            (Lock::Object(o, m), Lock::Object(p, n)) => o == p && !self.commute(&self.library.objects[*o].class, m, n),
+            (Lock::Class(c, m, all), Lock::Class(d, n, every)) => c == d && (*all || *every) && !self.commute(c, m, n),
+            _ => false,
+        }
+    }
+
+    pub fn call(&mut self, call: Call) -> Answer {
+        let (Call::Begin(slot) | Call::Send { slot, .. } | Call::Step(slot) | Call::Commit(slot) | Call::Abort(slot)) = call;
+        let slot = slot as usize;
+        if slot > 7 {
+            return Answer::Refused(31);
+        }
+        let open = self.slots[slot].is_some();
+        let running = open && self.slots[slot].as_ref().unwrap().message.is_some();
+        match call {
+            Call::Begin(_) if open => Answer::Refused(33),
+            Call::Begin(_) => {
+                self.slots[slot] = Some(Transaction::default());
+                Answer::Done
+            }
+            _ if !open => Answer::Refused(32),
+            Call::Send { .. } | Call::Commit(_) if running => Answer::Refused(34),
+            Call::Step(_) if !running => Answer::Refused(35),
+            Call::Send { target, method, argument, .. } => self.send(slot, target, method, argument),
+            Call::Step(_) => self.step(slot),
+            Call::Commit(_) => {
+                self.slots[slot] = None;
+                Answer::Done
+            }
+            Call::Abort(_) => {
+                self.undo(slot);
+                Answer::Done
+            }
+        }
+    }
+
+    fn undo(&mut self, slot: usize) {
+        let transaction = self.slots[slot].take().expect("an open slot");
+        for ((object, field), value) in transaction.before {
+            self.fields[object].insert(field, value);
+        }
+    }
+
+    fn send(&mut self, slot: usize, target: Target, method: u32, argument: u32) -> Answer {
+        let message = match message(self.library, target, method, argument) {
+            Some(message) => message,
+            None => return Answer::Refused(36),
+        };
+        for (other, held) in self.slots.iter().enumerate() {
+            let clashes = |h: &Lock| message.locks.iter().any(|l| self.clash(l, h));
+            if other != slot && held.iter().flat_map(|t| &t.locks).any(clashes) {
+                return Answer::Held(other as u32);
+            }
+        }
+        let transaction = self.slots[slot].as_mut().unwrap();
+        transaction.locks.extend(message.locks.iter().cloned());
+        transaction.left = message.objects.iter().rev().copied().collect();
+        transaction.sum = 0;
+        transaction.on = None;
+        transaction.message = Some(message);
+        Answer::Done
+    }
+
+    fn step(&mut self, slot: usize) -> Answer {
+        let library = self.library;
+        let transaction = self.slots[slot].as_mut().unwrap();
+        let message = transaction.message.as_ref().unwrap();
+        if transaction.on.is_none() {
+            match transaction.left.pop() {
+                Some(object) => transaction.on = Some(OnObject::new(library, object, message)),
+                None => {
+                    transaction.message = None;
+                    return Answer::Answer(0);
+                }
+            }
+        }
+        let before = &mut transaction.before;
+        let mut set = |object: usize, field: &str, value: u32| {
+            before.entry((object, field.to_string())).or_insert(value);
+        };
+        match transaction.on.as_mut().unwrap().step(library, &mut self.fields, &mut set) {
+            Step::Going => Answer::Going,
+            Step::Stopped => {
+                self.undo(slot);
+                Answer::Stopped
+            }
+            Step::Ended(reply) => {
+                transaction.sum = transaction.sum.wrapping_add(reply);
+                transaction.on = None;
+                if !transaction.left.is_empty() {
+                    return Answer::Going;
+                }
+                transaction.message = None;
+                Answer::Answer(transaction.sum)
+            }
+        }
+    }
+}
