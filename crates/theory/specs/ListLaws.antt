@@ -1,0 +1,247 @@
+-- What the model takes for granted (Base): a test that passes tells what it tests, and each list has the members that it
+-- should.
+use Prim.Native.Nat.{ℕ, zero, suc, _+_, _<_}
+use native.Mathlib.Omega.{arith}
+use native.Mathlib.Decide.{decLt}
+use mathlib.Core.Path.{_≡_, refl, sym, ap, subst, _∙_}
+use mathlib.Core.Logic.{_⊎_, inl, inr, ⊎-elim}
+use mathlib.Core.Bool.{Bool, true, false, not, cond, _&&_, _||_, true≢false, false≢true}
+use mathlib.Core.List.{List, [], _∷_, _++_, map, flatMap, List·Memᴰ, List·Memᴰ·head, List·Memᴰ·tail, List·Memᴰ·not-nil, List·Memᴰ·cases-cons, List·Memᴰ·append-cases, Memᴰ·append-left, Memᴰ·append-right}
+use lib.ListN.{length, getD, take, drop, length-append, List·getD-append}
+use lib.Dec.{T, eqb, ltb, eqb→eq, eqb-refl, ltb→lt}
+use lib.Seq.{getD-at}
+use Rattle.model.specs.Base.{same, any, keep, firstAt, upto}
+
+-- ---- tests
+
+passed : (b : Bool) → T b → b ≡ true
+passed true t = refl
+passed false t = absurd t
+
+pass : (b : Bool) → b ≡ true → T b
+pass b e = subst T (sym e) tt
+
+-- Both of two tests pass; neither does.
+pub both-left : (a b : Bool) → a && b ≡ true → a ≡ true
+both-left true b e = refl
+both-left false b e = e
+
+pub both-right : (a b : Bool) → a && b ≡ true → b ≡ true
+both-right true b e = e
+both-right false b e = absurd (false≢true e)
+
+neither-left : (a b : Bool) → a || b ≡ false → a ≡ false
+neither-left true b e = e
+neither-left false b e = refl
+
+neither-right : (a b : Bool) → a || b ≡ false → b ≡ false
+neither-right true b e = absurd (true≢false e)
+neither-right false b e = e
+
+-- The tests of numbers tell what they test.
+pub eqb-true : (m n : ℕ) → eqb m n ≡ true → m ≡ n
+eqb-true m n e = eqb→eq m n (pass (eqb m n) e)
+
+pub eqb-same : (n : ℕ) → eqb n n ≡ true
+eqb-same n = passed (eqb n n) (eqb-refl n)
+
+pub ltb-true : (m n : ℕ) → ltb m n ≡ true → m < n
+ltb-true m n e = ltb→lt m n (pass (ltb m n) e)
+
+-- So does the test of names.
+pub same-sound : (xs ys : List ℕ) → same xs ys ≡ true → xs ≡ ys
+unfolding same
+same-sound [] [] e = refl
+same-sound [] (y ∷ ys) e = absurd (false≢true e)
+same-sound (x ∷ xs) [] e = absurd (false≢true e)
+same-sound (x ∷ xs) (y ∷ ys) e =
+    λ i. eqb-true x y (both-left (eqb x y) (same xs ys) e) i ∷ same-sound xs ys (both-right (eqb x y) (same xs ys) e) i
+
+pub same-refl : (xs : List ℕ) → same xs xs ≡ true
+unfolding same
+same-refl [] = refl
+same-refl (x ∷ xs) = rw eqb-same (same-refl xs)
+
+-- ---- members
+
+module _ {A : Type 0} where
+  -- `any` passes where some member passes, and fails where none does.
+  pub any-member : (p : A → Bool) (xs : List A) → any p xs ≡ true → (x : A) × List·Memᴰ x xs × (p x ≡ true)
+  unfolding any
+  any-member p [] e = absurd (false≢true e)
+  any-member p (x ∷ xs) e = go (p x) refl (any-member p xs) e
+    where
+      go : (b : Bool) → p x ≡ b → (any p xs ≡ true → (y : A) × List·Memᴰ y xs × (p y ≡ true)) → b || any p xs ≡ true
+          → (y : A) × List·Memᴰ y (x ∷ xs) × (p y ≡ true)
+      go true q ih e = (x, List·Memᴰ·head refl, q)
+      go false q ih e = (ih e .0, List·Memᴰ·tail (ih e .1), ih e .2)
+
+  pub any-none : (p : A → Bool) {xs : List A} {x : A} → List·Memᴰ x xs → any p xs ≡ false → p x ≡ false
+  unfolding any
+  any-none p (List·Memᴰ·head {x = y} {xs = ys} e) q = ap p e ∙ neither-left (p y) (any p ys) q
+  any-none p (List·Memᴰ·tail {x = y} {xs = ys} m) q = any-none p m (neither-right (p y) (any p ys) q)
+
+  pub none-any : (p : A → Bool) (xs : List A) → ((x : A) → List·Memᴰ x xs → p x ≡ false) → any p xs ≡ false
+  unfolding any
+  none-any p [] f = refl
+  none-any p (x ∷ xs) f = rw (f x (List·Memᴰ·head refl)) (none-any p xs (λ y m. f y (List·Memᴰ·tail m)))
+
+  pub member-any : (p : A → Bool) {xs : List A} {x : A} → List·Memᴰ x xs → p x ≡ true → any p xs ≡ true
+  member-any p {xs} {x} m q = go (any p xs) refl
+    where
+      go : (b : Bool) → any p xs ≡ b → any p xs ≡ true
+      go true e = e
+      go false e = absurd (true≢false (sym q ∙ any-none p m e))
+
+  -- `keep` has the members that pass.
+  pub in-keep : (p : A → Bool) (xs : List A) {x : A} → List·Memᴰ x (keep p xs) → List·Memᴰ x xs × (p x ≡ true)
+  unfolding keep
+  in-keep p [] m = absurd (List·Memᴰ·not-nil m)
+  in-keep p (y ∷ ys) {x} m = go (p y) refl (λ n. in-keep p ys n) m
+    where
+      first : p y ≡ true → (x ≡ y) ⊎ List·Memᴰ x (keep p ys) → (List·Memᴰ x (keep p ys) → List·Memᴰ x ys × (p x ≡ true))
+          → List·Memᴰ x (y ∷ ys) × (p x ≡ true)
+      first q (inl e) ih = (List·Memᴰ·head e, ap p e ∙ q)
+      first q (inr n) ih = (List·Memᴰ·tail (ih n .0), ih n .1)
+
+      go : (b : Bool) → p y ≡ b → (List·Memᴰ x (keep p ys) → List·Memᴰ x ys × (p x ≡ true)) → List·Memᴰ x (cond b (y ∷ keep p ys) (keep p ys))
+          → List·Memᴰ x (y ∷ ys) × (p x ≡ true)
+      go true q ih m = first q (List·Memᴰ·cases-cons m) ih
+      go false q ih m = (List·Memᴰ·tail (ih m .0), ih m .1)
+
+  pub keep-in : (p : A → Bool) (xs : List A) {x : A} → List·Memᴰ x xs → p x ≡ true → List·Memᴰ x (keep p xs)
+  unfolding keep
+  keep-in p [] m q = absurd (List·Memᴰ·not-nil m)
+  keep-in p (y ∷ ys) {x} m q = go (p y) refl (λ n. keep-in p ys n q) (List·Memᴰ·cases-cons m)
+    where
+      go : (b : Bool) → p y ≡ b → (List·Memᴰ x ys → List·Memᴰ x (keep p ys)) → (x ≡ y) ⊎ List·Memᴰ x ys
+          → List·Memᴰ x (cond b (y ∷ keep p ys) (keep p ys))
+      go true r ih (inl e) = List·Memᴰ·head e
+      go true r ih (inr n) = List·Memᴰ·tail (ih n)
+      go false r ih (inl e) = absurd (true≢false (sym q ∙ ap p e ∙ r))
+      go false r ih (inr n) = ih n
+
+  -- What is kept and what is not are the list together.
+  pub keep-length : (p : A → Bool) (xs : List A) → length (keep p xs) + length (keep (λ x. not (p x)) xs) ≡ length xs
+  unfolding keep
+  keep-length p [] = refl
+  keep-length p (y ∷ ys) = go (p y) (keep-length p ys)
+    where
+      rest : List A
+      rest = keep (λ x. not (p x)) ys
+
+      go : (b : Bool) → length (keep p ys) + length rest ≡ length ys
+          → length (cond b (y ∷ keep p ys) (keep p ys)) + length (cond (not b) (y ∷ rest) rest) ≡ suc (length ys)
+      go true e = omega arith
+      go false e = omega arith
+
+  -- A part of a list has members of the list.
+  pub in-append-nil : (xs : List A) {x : A} → List·Memᴰ x (xs ++ []) → List·Memᴰ x xs
+  in-append-nil xs m = ⊎-elim (λ k. k) (λ k. absurd (List·Memᴰ·not-nil k)) (List·Memᴰ·append-cases xs m)
+
+  pub in-take : (n : ℕ) (xs : List A) {x : A} → List·Memᴰ x (take n xs) → List·Memᴰ x xs
+  in-take zero xs m = absurd (List·Memᴰ·not-nil m)
+  in-take (suc n) [] m = absurd (List·Memᴰ·not-nil m)
+  in-take (suc n) (y ∷ ys) {x} m = go (λ k. in-take n ys k) (List·Memᴰ·cases-cons m)
+    where
+      go : (List·Memᴰ x (take n ys) → List·Memᴰ x ys) → (x ≡ y) ⊎ List·Memᴰ x (take n ys) → List·Memᴰ x (y ∷ ys)
+      go ih (inl e) = List·Memᴰ·head e
+      go ih (inr k) = List·Memᴰ·tail (ih k)
+
+  pub in-drop : (n : ℕ) (xs : List A) {x : A} → List·Memᴰ x (drop n xs) → List·Memᴰ x xs
+  in-drop zero xs m = m
+  in-drop (suc n) [] m = absurd (List·Memᴰ·not-nil m)
+  in-drop (suc n) (y ∷ ys) m = List·Memᴰ·tail (in-drop n ys m)
+
+  -- The member at the first place that passes does pass; there is none where none passes.
+  pub first-passes : (p : A → Bool) (d : A) (xs : List A) → firstAt p xs < length xs → p (getD xs (firstAt p xs) d) ≡ true
+  unfolding firstAt
+  first-passes p d [] h = absurd (omega arith)
+  first-passes p d (x ∷ xs) h = go (p x) refl (first-passes p d xs) h
+    where
+      go : (b : Bool) → p x ≡ b → (firstAt p xs < length xs → p (getD xs (firstAt p xs) d) ≡ true)
+          → cond b 0 (suc (firstAt p xs)) < suc (length xs) → p (getD (x ∷ xs) (cond b 0 (suc (firstAt p xs))) d) ≡ true
+      go true q ih h = q
+      go false q ih h = ih (omega arith)
+
+  pub first-below : (p : A → Bool) (xs : List A) → any p xs ≡ true → firstAt p xs < length xs
+  unfolding firstAt any
+  first-below p [] e = absurd (false≢true e)
+  first-below p (x ∷ xs) e = go (p x) (first-below p xs) e
+    where
+      go : (b : Bool) → (any p xs ≡ true → firstAt p xs < length xs) → b || any p xs ≡ true
+          → cond b 0 (suc (firstAt p xs)) < suc (length xs)
+      go true ih e = omega arith
+      go false ih e = let h = ih e in omega arith
+
+  pub first-past : (p : A → Bool) (xs : List A) → any p xs ≡ false → firstAt p xs ≡ length xs
+  unfolding firstAt any
+  first-past p [] e = refl
+  first-past p (x ∷ xs) e = go (p x) (first-past p xs) e
+    where
+      go : (b : Bool) → (any p xs ≡ false → firstAt p xs ≡ length xs) → b || any p xs ≡ false
+          → cond b 0 (suc (firstAt p xs)) ≡ suc (length xs)
+      go true ih e = absurd (true≢false e)
+      go false ih e = ap suc (ih e)
+
+  -- The table of a function has its values.
+  upto-length : (f : ℕ → A) (n : ℕ) → length (upto f n) ≡ n
+  unfolding upto
+  upto-length f zero = refl
+  upto-length f (suc n) = length-append (upto f n) (f n ∷ []) ∙ (let e = upto-length f n in omega arith)
+
+  pub upto-at : (f : ℕ → A) (d : A) (n k : ℕ) → k < n → getD (upto f n) k d ≡ f k
+  unfolding upto
+  upto-at f d zero k h = absurd (omega arith)
+  upto-at f d (suc n) k h = go (upto-at f d n k) (upto-length f n) (decLt k n)
+    where
+      go : (k < n → getD (upto f n) k d ≡ f k) → length (upto f n) ≡ n → Dec (k < n) → getD (upto f n ++ (f n ∷ [])) k d ≡ f k
+      go ih e (yes w) = List·getD-append (upto f n) (f n ∷ []) d k (omega arith) ∙ ih w
+      go ih e (no w) =
+          let here : k ≡ n = omega arith in
+          getD-at (upto f n) (f n) [] d k (e ∙ sym here) ∙ ap f (sym here)
+
+  pub in-upto : (f : ℕ → A) (n k : ℕ) → k < n → List·Memᴰ (f k) (upto f n)
+  unfolding upto
+  in-upto f zero k h = absurd (omega arith)
+  in-upto f (suc n) k h = go (in-upto f n k) (decLt k n)
+    where
+      go : (k < n → List·Memᴰ (f k) (upto f n)) → Dec (k < n) → List·Memᴰ (f k) (upto f n ++ (f n ∷ []))
+      go ih (yes w) = Memᴰ·append-left (f n ∷ []) (ih w)
+      go ih (no w) = let here : k ≡ n = omega arith in Memᴰ·append-right (upto f n) (List·Memᴰ·head (ap f here))
+
+module _ {A B : Type 0} where
+  -- `map` and `flatMap` have the images of the members.
+  pub map-in : (f : A → B) {xs : List A} {x : A} → List·Memᴰ x xs → List·Memᴰ (f x) (map f xs)
+  map-in f (List·Memᴰ·head e) = List·Memᴰ·head (ap f e)
+  map-in f (List·Memᴰ·tail m) = List·Memᴰ·tail (map-in f m)
+
+  pub in-map : (f : A → B) (xs : List A) {y : B} → List·Memᴰ y (map f xs) → (x : A) × List·Memᴰ x xs × (y ≡ f x)
+  in-map f [] m = absurd (List·Memᴰ·not-nil m)
+  in-map f (x ∷ xs) {y} m = go (λ n. in-map f xs n) (List·Memᴰ·cases-cons m)
+    where
+      go : (List·Memᴰ y (map f xs) → (z : A) × List·Memᴰ z xs × (y ≡ f z)) → (y ≡ f x) ⊎ List·Memᴰ y (map f xs)
+          → (z : A) × List·Memᴰ z (x ∷ xs) × (y ≡ f z)
+      go ih (inl e) = (x, List·Memᴰ·head refl, e)
+      go ih (inr n) = (ih n .0, List·Memᴰ·tail (ih n .1), ih n .2)
+
+  pub map-at : (f : A → B) (xs : List A) (k : ℕ) (d : A) (e : B) → k < length xs → getD (map f xs) k e ≡ f (getD xs k d)
+  map-at f [] k d e h = absurd (omega arith)
+  map-at f (x ∷ xs) zero d e h = refl
+  map-at f (x ∷ xs) (suc k) d e h = map-at f xs k d e (omega arith)
+
+  pub flatMap-in : (f : A → List B) {xs : List A} {x : A} {y : B} → List·Memᴰ x xs → List·Memᴰ y (f x) → List·Memᴰ y (flatMap f xs)
+  unfolding flatMap
+  flatMap-in f {y = y} (List·Memᴰ·head {xs = zs} e) n = Memᴰ·append-left (flatMap f zs) (subst (λ w. List·Memᴰ y (f w)) e n)
+  flatMap-in f (List·Memᴰ·tail {x = z} m) n = Memᴰ·append-right (f z) (flatMap-in f m n)
+
+  pub in-flatMap : (f : A → List B) (xs : List A) {y : B} → List·Memᴰ y (flatMap f xs) → (x : A) × List·Memᴰ x xs × List·Memᴰ y (f x)
+  unfolding flatMap
+  in-flatMap f [] m = absurd (List·Memᴰ·not-nil m)
+  in-flatMap f (x ∷ xs) {y} m = go (λ n. in-flatMap f xs n) (List·Memᴰ·append-cases (f x) m)
+    where
+      go : (List·Memᴰ y (flatMap f xs) → (z : A) × List·Memᴰ z xs × List·Memᴰ y (f z))
+          → List·Memᴰ y (f x) ⊎ List·Memᴰ y (flatMap f xs)
+          → (z : A) × List·Memᴰ z (x ∷ xs) × List·Memᴰ y (f z)
+      go ih (inl n) = (x, List·Memᴰ·head refl, n)
+      go ih (inr n) = (ih n .0, List·Memᴰ·tail (ih n .1), ih n .2)

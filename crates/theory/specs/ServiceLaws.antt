@@ -1,0 +1,54 @@
+-- 01's messages, locks and undo keep the laws of a service, for every library and every lawful resolution.
+use Rattle.model.specs.Library.{Library, Resolution}
+use Rattle.model.specs.Vector.{Program, programBy, program}
+use Rattle.model.specs.Machine.{service}
+use Rattle.twophase.specs.Laws.{Laws}
+use Rattle.theory.specs.Lawful.{Lawful}
+use Rattle.theory.specs.VectorLaws.{Compiled, programBy-compiled, program-compiled}
+use Rattle.theory.specs.Footprint.{May, Agree, Free, Aside}
+use Rattle.theory.specs.Coverage.{Of, of-begun}
+use Rattle.theory.specs.ReadsOnly.{turn-local}
+use Rattle.theory.specs.SetsOnly.{of-turn, may-goes, may-ends}
+use Rattle.theory.specs.Locality.{agree-refl, agree-sym, agree-trans, agree-act, free-sym, free-commute, free-agree}
+use Rattle.theory.specs.LockLaws.{free-lock}
+use Rattle.theory.specs.UndoLaws.{back-clean, back-noted, noted-local, aside-clean, aside-noted, aside-back}
+use Rattle.theory.specs.Alone.{alone-end}
+
+-- A program whose vectors are those of its library.
+unfoldable pub laws : (p : Program) → Compiled p → Laws (service p)
+laws p right = record {
+  Ok = λ fields. Unit {0};
+  Of = Of p;
+  May = May p;
+  Agree = Agree p;
+  Free = Free p;
+  Aside = Aside;
+  agree-refl = agree-refl p;
+  agree-sym = agree-sym p;
+  agree-trans = agree-trans p;
+  agree-act = agree-act p;
+  of-begun = of-begun p;
+  of-turn = λ m r r′ e fields ok. of-turn p right m r r′ e fields;
+  may-goes = λ m r r′ e fields ok. may-goes p right m r r′ e fields;
+  may-ends = λ m r v e fields ok. may-ends p right m r v e fields;
+  turn-local = turn-local p right;
+  ok-act = λ m e fields ok may. tt;
+  free-sym = free-sym p;
+  free-commute = free-commute p;
+  free-agree = free-agree p;
+  free-lock = free-lock p;
+  back-clean = back-clean;
+  back-noted = λ m u e fields ok may. back-noted u e fields;
+  noted-local = noted-local p;
+  aside-clean = aside-clean;
+  aside-noted = aside-noted p;
+  aside-back = aside-back;
+  alone-end = alone-end p;
+}
+
+-- The program of a library, by any lawful resolution and so by 01's.
+pub laws-by : (l : Library) (resolve : Resolution) → Lawful l resolve → Laws (service (programBy l resolve))
+laws-by l resolve lawful = laws (programBy l resolve) (programBy-compiled l resolve lawful)
+
+pub program-laws : (l : Library) → Laws (service (program l))
+program-laws l = laws (program l) (program-compiled l)
