@@ -1,0 +1,16 @@
+-- `lex::is_name_byte` meets its contract: it is the definition, test by test.
+use borrow.Author.Needs.{needs}
+use Rattle.lex.proofs.is_name_byte.Statement.{statement}
+use Rattle.lex.proofs.is_name_byte.Tie as tie
+
+is-letter-requires : tie.Need-is-letter-requires
+is-letter-requires c κs = search needs
+
+is-digit-requires : tie.Need-is-digit-requires
+is-digit-requires c κs = search needs
+
+returns : tie.Need-returns
+returns c = cc
+
+pub is-name-byte-spec : {M : Type 1} → statement M
+is-name-byte-spec = tie.close (tie.spec is-letter-requires is-digit-requires returns)
