@@ -1,0 +1,6 @@
+pub mod Chosen
+pub mod Tokens
+pub mod Reading
+pub mod Keywords
+pub mod Kinds
+pub mod Places

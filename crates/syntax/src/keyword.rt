@@ -1,0 +1,41 @@
+// The word that a line, or a statement behind its `when E`, begins with.
+ghost use mathlib.Core.Path.{_≡_};
+ghost use mathlib.Core.Bool.{cond};
+ghost use Rattle.model.specs.Form.{keywordOf};
+ghost use Rattle.syntax.specs.Keywords.{saidKeyword};
+
+// The nine words that begin a line, and Other for any other word.
+pub enum Keyword {
+    Class,
+    Field,
+    Method,
+    End,
+    Object,
+    Set,
+    Send,
+    Reply,
+    When,
+    Other,
+}
+
+// The keyword where the test passes, else the other.
+fn choose(test: bool, keyword: Keyword, other: Keyword) -> Keyword
+    ensures { λ r. ⌜ r ≡ cond test keyword other ⌝ }
+{
+    if test { keyword } else { other }
+}
+
+// The keyword that the word is; Other where it is none.
+pub fn keyword_of(word: &[u8]) -> Keyword
+    ensures { λ r. ⌜ saidKeyword r ≡ keywordOf (now (word .entry)) ⌝ }
+{
+    let keyword = choose(lex::same(word, b"when"), Keyword::When, Keyword::Other);
+    let keyword = choose(lex::same(word, b"reply"), Keyword::Reply, keyword);
+    let keyword = choose(lex::same(word, b"send"), Keyword::Send, keyword);
+    let keyword = choose(lex::same(word, b"set"), Keyword::Set, keyword);
+    let keyword = choose(lex::same(word, b"object"), Keyword::Object, keyword);
+    let keyword = choose(lex::same(word, b"end"), Keyword::End, keyword);
+    let keyword = choose(lex::same(word, b"method"), Keyword::Method, keyword);
+    let keyword = choose(lex::same(word, b"field"), Keyword::Field, keyword);
+    choose(lex::same(word, b"class"), Keyword::Class, keyword)
+}

@@ -1,0 +1,22 @@
+-- `words::is_class` meets its contract: a name is known exactly if its number is not the end.
+use mathlib.Core.Path.{sym, ap₂, _∙_}
+use lib.Dec.{ltb}
+use Rattle.words.specs.Look.{is-class}
+use borrow.Author.Needs.{needs}
+use Rattle.words.proofs.is_class.Statement.{statement}
+use Rattle.words.proofs.is_class.Tie as tie
+
+class-number-requires : tie.Need-class-number-requires
+class-number-requires c κs = search needs
+
+class-count-requires : tie.Need-class-count-requires
+class-count-requires c κs = search needs
+
+returns : tie.Need-returns
+returns c =
+    let n = c .before in
+    let a = n .before .before .before .before .args in
+    ap₂ ltb (n .class-number .ensures) (c .class-count .ensures) ∙ sym (is-class (a .text .now) (a .tables .now) (a .name .now))
+
+pub is-class-spec : {M : Type 1} → statement M
+is-class-spec = tie.close (tie.spec class-number-requires class-count-requires returns)

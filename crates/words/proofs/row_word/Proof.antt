@@ -1,0 +1,23 @@
+-- `words::row_word` meets its contract: it gets the word that the definition names.
+use Prim.Native.Nat.{ℕ}
+use mathlib.Core.Path.{ap, _∙_}
+use lib.ListN.{getD}
+use Rattle.words.specs.View.{classWord}
+use borrow.Author.Needs.{needs}
+use Rattle.words.proofs.row_word.Statement.{statement}
+use Rattle.words.proofs.row_word.Tie as tie
+
+member-place-requires : tie.Need-member-place-requires
+member-place-requires c κs = search needs
+
+get-requires : tie.Need-get-requires
+get-requires c κs = search needs
+
+returns : tie.Need-returns
+unfolding classWord
+returns c =
+    let a = c .before .before .before .args in
+    c .get .ensures ∙ ap (λ (i : ℕ). getD (a .tables .now) i 0) (c .before .member-place .ensures)
+
+pub row-word-spec : {M : Type 1} → statement M
+row-word-spec = tie.close (tie.spec member-place-requires get-requires returns)

@@ -1,0 +1,86 @@
+-- Look-ups in the library that the tables say: how long its lists are, what stands at a number, and that a name is known
+-- exactly if its place is not the end.
+use Prim.Native.Nat.{ℕ, zero, suc, _≤_, _<_}
+use mathlib.Core.Path.{_≡_, refl, sym, ap, _∙_}
+use mathlib.Core.Bool.{Bool, true, false, cond}
+use mathlib.Core.List.{List, []}
+use native.Mathlib.Omega.{arith}
+use lib.ListN.{length, getD, List·getD-eq-default}
+use lib.Dec.{ltb}
+use borrow.Author.Tests.{ltb-true, ltb-false}
+use Rattle.model.specs.Base.{same, any, firstAt, upto}
+use Rattle.model.specs.Word.{Name}
+use Rattle.model.specs.Library.{Member, Class, noMember, noClass, memberPlace, member, among, classNumber, isClass, classAt}
+use Rattle.words.specs.View.{classCount, statementCount, objectCount, memberCount, memberAt, membersOf, classOf, placedOf, objectOf, libraryOf}
+use Rattle.words.specs.Upto.{length-upto, getD-upto, any-first}
+
+-- How many fields (p is 0) or methods (p is 1) the class with a number has; none where no class has it.
+unfoldable pub shownCount : List ℕ → ℕ → ℕ → ℕ
+unfolding memberCount
+shownCount ws k p = cond (ltb k (classCount ws)) (memberCount ws k p) 0
+
+-- The fields of a class, or its methods.
+abbrev pub part : ℕ → Class → List Member
+part zero c = c .fields
+part (suc p) c = c .methods
+
+module _ (text ws : List ℕ) where
+  pub class-count : length (libraryOf text ws .classes) ≡ classCount ws
+  unfolding libraryOf
+  class-count = length-upto (classOf text ws) (classCount ws)
+
+  pub statement-count : length (libraryOf text ws .statements) ≡ statementCount ws
+  unfolding libraryOf
+  statement-count = length-upto (placedOf text ws) (statementCount ws)
+
+  pub object-count : length (libraryOf text ws .objects) ≡ objectCount ws
+  unfolding libraryOf
+  object-count = length-upto (objectOf text ws) (objectCount ws)
+
+  pub member-count : (k p : ℕ) → length (membersOf text ws k p) ≡ memberCount ws k p
+  unfolding membersOf
+  member-count k p = length-upto (memberAt text ws k p) (memberCount ws k p)
+
+  pub class-at : (k : ℕ) → k < classCount ws → classAt (libraryOf text ws) k ≡ classOf text ws k
+  unfolding libraryOf
+  class-at k h = getD-upto (classOf text ws) (classCount ws) k noClass h
+
+  pub class-past : (k : ℕ) → classCount ws ≤ k → classAt (libraryOf text ws) k ≡ noClass
+  class-past k h = List·getD-eq-default (libraryOf text ws .classes) noClass (omega (arith, class-count))
+
+  class-part : (k p : ℕ) → p < 2 → part p (classOf text ws k) ≡ membersOf text ws k p
+  unfolding classOf
+  class-part k zero h = refl
+  class-part k (suc zero) h = refl
+  class-part k (suc (suc p)) h = absurd (omega arith)
+
+  part-none : (p : ℕ) → part p noClass ≡ []
+  part-none zero = refl
+  part-none (suc p) = refl
+
+  -- The members of the class with a number, as a loop counts them.
+  pub shown-members : (k p : ℕ) → p < 2 → part p (classAt (libraryOf text ws) k) ≡ upto (memberAt text ws k p) (shownCount ws k p)
+  unfolding membersOf shownCount upto
+  shown-members k p h = side (ltb k (classCount ws)) refl
+    where
+      side : (t : Bool) → ltb k (classCount ws) ≡ t → part p (classAt (libraryOf text ws) k) ≡ upto (memberAt text ws k p) (cond t (memberCount ws k p) 0)
+      side true t = ap (part p) (class-at k (ltb-true k (classCount ws) t)) ∙ class-part k p h
+      side false t = ap (part p) (class-past k (ltb-false k (classCount ws) t)) ∙ part-none p
+
+  pub member-at : (k p j : ℕ) → j < memberCount ws k p → getD (membersOf text ws k p) j noMember ≡ memberAt text ws k p j
+  unfolding membersOf
+  member-at k p j h = getD-upto (memberAt text ws k p) (memberCount ws k p) j noMember h
+
+  pub is-class : (n : Name) → isClass (libraryOf text ws) n ≡ ltb (classNumber (libraryOf text ws) n) (classCount ws)
+  unfolding isClass classNumber
+  is-class n =
+      let known : Class → Bool = λ c. same (c .name) n in
+      any-first known (libraryOf text ws .classes) ∙ ap (ltb (firstAt known (libraryOf text ws .classes))) class-count
+
+  pub is-object : (n : Name) → any (λ o. same (o .name) n) (libraryOf text ws .objects) ≡ ltb (firstAt (λ o. same (o .name) n) (libraryOf text ws .objects)) (objectCount ws)
+  is-object n = any-first _ (libraryOf text ws .objects) ∙ ap (ltb _) object-count
+
+-- A member of that name is there exactly if its place is before the end.
+pub among-place : (ms : List Member) (n : Name) → among ms n ≡ ltb (memberPlace ms n) (length ms)
+unfolding among memberPlace
+among-place ms n = any-first (λ (m : Member). same (m .name) n) ms
