@@ -12,7 +12,8 @@ ghost use Rattle.model.specs.Expression.{expression};
 ghost use Rattle.model.specs.Form.{actionOf, formOf};
 ghost use Rattle.lex.specs.Piece.{wordsAfter};
 ghost use Rattle.syntax.specs.Keywords.{saidKeyword};
-ghost use Rattle.syntax.specs.Kinds.{kindOf, said, isSort, isAction, isWhole, isNamed, areNames, isClass, isObject, isSet, isTarget, isSend, isGuarded, fits, kindBy};
+ghost use Rattle.syntax.specs.Kinds.{kindOf, said, kindBy, fits, isSort, isAction, isWhole};
+ghost use Rattle.syntax.specs.Kinds.{isNamed, areNames, isClass, isObject, isSet, isTarget, isSend, isGuarded};
 
 const LEVELS: usize = 9;
 

@@ -25,7 +25,11 @@ returns c =
     let c3 = c4 .before .before in
     let c2 = c3 .before .before in
     let c1 = c2 .before .before in
-    let tests = c1 .same .ensures or c2 .same2 .ensures or c3 .same3 .ensures or c4 .same4 .ensures or c5 .same5 .ensures or c6 .same6 .ensures or c7 .same7 .ensures or c8 .same8 .ensures or c9 .same9 .ensures or c10 .same10 .ensures or c11 .same11 .ensures or c12 .same12 .ensures or c13 .same13 .ensures or c14 .same14 .ensures or c .same15 .ensures in
+    let tests =
+    c1 .same .ensures or c2 .same2 .ensures or c3 .same3 .ensures or c4 .same4 .ensures or c5 .same5 .ensures
+    or c6 .same6 .ensures or c7 .same7 .ensures or c8 .same8 .ensures or c9 .same9 .ensures or c10 .same10 .ensures
+    or c11 .same11 .ensures or c12 .same12 .ensures or c13 .same13 .ensures or c14 .same14 .ensures or c .same15 .ensures
+    in
     tests ∙ chained-any (same (c1 .before .before .before .args .word .now)) reserved
 
 pub is-reserved-spec : {M : Type 1} → statement M
