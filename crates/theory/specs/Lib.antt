@@ -19,3 +19,4 @@ pub mod UndoLaws
 pub mod Alone
 pub mod ServiceLaws
 pub mod CommitOrder
+pub mod Accepted
