@@ -7,14 +7,15 @@ use native.Mathlib.Numerals.{add-one}
 use mathlib.Core.Path.{_≡_, refl, sym, ap, subst, _∙_}
 use mathlib.Core.Bool.{Bool, true, false, not, cond, _||_, true≢false}
 use mathlib.Core.List.{List, [], _∷_, _++_, map}
-use lib.ListN.{length, getD, length-append}
-use lib.Dec.{leb, ltb}
+use lib.ListN.{length, getD, take, drop, length-append}
+use lib.Seq.{drop-drop}
+use lib.Dec.{eqb, leb, ltb}
 use Rattle.model.specs.Base.{same, any, firstAt, alter, fold}
 use Rattle.model.specs.Word.{Name}
-use Rattle.model.specs.Form.{Form, classLine, fieldLine, methodLine, statementLine, endLine, objectLine, malformed, Line, linesFrom, restOf, atStart, firstMisplaced}
-use Rattle.model.specs.Library.{Member, Class, Object, Library, nothing, noClass, memberPlace, among, classNumber, isClass, className, classAt, joined, inherited, written, newClass, withField, withMethod, withStatement, oneMore, add}
+use Rattle.model.specs.Form.{Form, classLine, fieldLine, methodLine, statementLine, endLine, objectLine, malformed, Line, formOf, linesFrom, restOf, atStart, firstMisplaced}
+use Rattle.model.specs.Library.{Member, Class, Placed, Object, Library, nothing, noClass, memberPlace, among, classNumber, isClass, className, classAt, joined, inherited, written, newClass, withField, withMethod, withStatement, oneMore, add}
 use Rattle.model.specs.Fault.{objectFault, faultOf}
-use Rattle.model.specs.Text.{linesAndRest}
+use Rattle.model.specs.Text.{cut, pieces, words, linesAndRest}
 use Rattle.model.specs.Read.{Reading, accepted, refused, unless, libraryIn as libraryOf, judged, orJudged, readPieces, read, library}
 use Rattle.twophase.specs.Base.{All, all-append, all-map}
 use Rattle.theory.specs.ListLaws.{same-sound, same-refl, first-below}
@@ -259,43 +260,111 @@ add-known l line (objectLine n c vs) below e h =
     all-append (KnownObject l) (l .objects) (record { name = n; class = classNumber l c; values = vs } ∷ []) h (number-known l c (object-known l n c vs e), tt)
 add-known l line malformed below e h = h
 
+-- ---- the lines of a text, each with its place
+
+-- The line's form is that of the bytes at its place.
+abbrev pub LineOf : List ℕ → Line → Type 0
+LineOf text line = line .form ≡ formOf (words (take (line .size) (drop (line .at) text)))
+
+-- The first piece is the front of the list, and the others are the pieces behind its divider.
+abbrev Cut : List ℕ → List (List ℕ) → Type 0
+Cut s [] = Unit {0}
+Cut s (l ∷ []) = Unit {0}
+Cut s (l ∷ m ∷ ls) = (take (length l) s ≡ l) × (pieces 10 (drop (suc (length l)) s) ≡ m ∷ ls)
+
+cut-pieces : (s : List ℕ) → Cut s (pieces 10 s)
+unfolding pieces
+cut-pieces [] = tt
+cut-pieces (b ∷ t) = go (eqb b 10) (pieces 10 t) refl (cut-pieces t)
+  where
+    go : (d : Bool) (ps : List (List ℕ)) → pieces 10 t ≡ ps → Cut t (pieces 10 t) → Cut (b ∷ t) (cut d b ps)
+    go true [] e c = tt
+    go true (p ∷ ps) e c = (refl, e)
+    go false [] e c = tt
+    go false (p ∷ []) e c = tt
+    go false (p ∷ q ∷ ps) e c =
+        let here = subst (Cut t) e c in
+        (ap (λ (l : List ℕ). b ∷ l) (here .0), here .1)
+
+lines-from : (text s : List ℕ) (ps : List (List ℕ)) (at : ℕ) → Cut s ps → s ≡ drop at text → All (LineOf text) (linesFrom at ps)
+unfolding linesFrom
+lines-from text s [] at c e = tt
+lines-from text s (l ∷ []) at c e = tt
+lines-from text s (l ∷ m ∷ ls) at c e =
+    let next : drop (suc (length l)) s ≡ drop (at + length l + 1) text =
+    ap (drop (suc (length l))) e ∙ drop-drop (suc (length l)) at text ∙ ap (λ (k : ℕ). drop k text) (let z : at + suc (length l) ≡ at + length l + 1 = omega arith in z) in (
+      ap (λ (x : List ℕ). formOf (words x)) (sym (c .0) ∙ ap (take (length l)) e),
+      lines-from text (drop (suc (length l)) s) (m ∷ ls) (at + length l + 1) (subst (Cut (drop (suc (length l)) s)) (c .1) (cut-pieces (drop (suc (length l)) s))) next,
+    )
+
+pub lines-of : (text : List ℕ) → All (LineOf text) (linesFrom 0 (linesAndRest text))
+lines-of text = lines-from text text (linesAndRest text) 0 (cut-pieces text) refl
+
 -- ---- the pass over the lines
 
 -- What an added line without a fault keeps, holds of the library of an accepted text.
-pub accepted-keeps : (P : Library → Type 0) → ((l : Library) (line : Line) (below : List Line) → faultOf l below (line .form) ≡ 0 → P l → P (add l line (line .form)))
-    → (ls : List Line) (l : Library) (n : ℕ) (k : Library) → P l → judged l n ls ≡ accepted k → P k
-unfolding judged
-accepted-keeps P keeps [] l n k h e = subst P (let z : libraryOf (accepted l) ≡ libraryOf (accepted k) = ap libraryOf e in z) h
-accepted-keeps P keeps (line ∷ below) l n k h e = go (faultOf l below (line .form)) refl (λ p. accepted-keeps P keeps below (add l line (line .form)) (n + 1) k p) e
-  where
-    go : (x : ℕ) → faultOf l below (line .form) ≡ x → (P (add l line (line .form)) → judged (add l line (line .form)) (n + 1) below ≡ accepted k → P k)
-        → unless x n (judged (add l line (line .form)) (n + 1) below) ≡ accepted k → P k
-    go zero f rest q = rest (keeps l line below f h) q
-    go (suc x) f rest q = let z : _≡_ {A = ℕ} 0 1 = cc in absurd (omega arith)
+module _ (Q : Line → Type 0) (P : Library → Type 0)
+    (keeps : (l : Library) (line : Line) (below : List Line) → Q line → faultOf l below (line .form) ≡ 0 → P l → P (add l line (line .form))) where
+  accepted-keeps : (ls : List Line) → All Q ls → (l : Library) (n : ℕ) (k : Library) → P l → judged l n ls ≡ accepted k → P k
+  unfolding judged
+  accepted-keeps [] q l n k h e = subst P (let z : libraryOf (accepted l) ≡ libraryOf (accepted k) = ap libraryOf e in z) h
+  accepted-keeps (line ∷ below) q l n k h e =
+      go (faultOf l below (line .form)) refl (λ p. accepted-keeps below (q .1) (add l line (line .form)) (n + 1) k p) e
+    where
+      go : (x : ℕ) → faultOf l below (line .form) ≡ x → (P (add l line (line .form)) → judged (add l line (line .form)) (n + 1) below ≡ accepted k → P k)
+          → unless x n (judged (add l line (line .form)) (n + 1) below) ≡ accepted k → P k
+      go zero f rest w = rest (keeps l line below (q .0) f h) w
+      go (suc x) f rest w = let z : _≡_ {A = ℕ} 0 1 = cc in absurd (omega arith)
 
-module _ (P : Library → Type 0) (none : P nothing)
-    (keeps : (l : Library) (line : Line) (below : List Line) → faultOf l below (line .form) ≡ 0 → P l → P (add l line (line .form))) where
-  of-judged : (n : ℕ) (ls : List Line) → P (libraryOf (orJudged n ls))
-  of-judged zero ls = go (judged nothing 1 ls) refl
+  of-judged : P nothing → (n : ℕ) (ls : List Line) → All Q ls → P (libraryOf (orJudged n ls))
+  of-judged none zero ls q = go (judged nothing 1 ls) refl
     where
       go : (r : Reading) → judged nothing 1 ls ≡ r → P (libraryOf r)
-      go (accepted l) e = accepted-keeps P keeps ls nothing 1 l none e
+      go (accepted l) e = accepted-keeps ls q nothing 1 l none e
       go (refused f n) e = none
-  of-judged (suc n) ls = none
+  of-judged none (suc n) ls q = none
 
-  -- It holds of the library of any text.
-  pub of-library : (text : List ℕ) → P (library text)
+-- It holds of the library of any text.
+module _ (text : List ℕ) (P : Library → Type 0) (none : P nothing)
+    (keeps : (l : Library) (line : Line) (below : List Line) → LineOf text line → faultOf l below (line .form) ≡ 0 → P l → P (add l line (line .form))) where
+  pub of-library : P (library text)
   unfolding library read readPieces
-  of-library text = go (ltb 32768 (length text))
+  of-library = go (ltb 32768 (length text))
     where
       go : (b : Bool) → P (libraryOf (cond b (refused 11 0) (readPieces (linesAndRest text))))
       go true = none
-      go false = of-judged (firstMisplaced 1 atStart (linesFrom 0 (linesAndRest text)) (restOf (linesAndRest text))) (linesFrom 0 (linesAndRest text))
+      go false =
+          of-judged (LineOf text) P keeps none (firstMisplaced 1 atStart (linesFrom 0 (linesAndRest text)) (restOf (linesAndRest text)))
+          (linesFrom 0 (linesAndRest text)) (lines-of text)
 
 -- The methods of each class of a text have different names and bodies within the text's statements.
 pub library-sound : (text : List ℕ) → Sound (library text)
-library-sound text = of-library Sound tt (λ l line below e s. add-sound l line (line .form) s) text
+library-sound text = of-library text Sound tt (λ l line below q e s. add-sound l line (line .form) s)
 
 -- Each object of a text is of a known class.
 pub library-known : (text : List ℕ) → Known (library text)
-library-known text = of-library Known tt (λ l line below e h. add-known l line (line .form) below e h) text
+library-known text = of-library text Known tt (λ l line below q e h. add-known l line (line .form) below e h)
+
+-- ---- statements are where they stand
+
+-- The line at the statement's place says it.
+abbrev StandsAt : List ℕ → Placed → Type 0
+StandsAt text x = formOf (words (take (x .size) (drop (x .at) text))) ≡ statementLine (x .statement)
+
+abbrev pub Placing : List ℕ → Library → Type 0
+Placing text l = All (StandsAt text) (l .statements)
+
+add-placing : (text : List ℕ) (l : Library) (line : Line) (f : Form) → line .form ≡ f → LineOf text line → Placing text l → Placing text (add l line f)
+unfolding add
+add-placing text l line (classLine n ps) e q h = h
+add-placing text l line (fieldLine n) e q h = h
+add-placing text l line (methodLine n) e q h = h
+add-placing text l line (statementLine s) e q h =
+    all-append (StandsAt text) (l .statements) (record { statement = s; at = line .at; size = line .size } ∷ []) h (sym q ∙ e, tt)
+add-placing text l line endLine e q h = h
+add-placing text l line (objectLine n c vs) e q h = h
+add-placing text l line malformed e q h = h
+
+-- Each statement of a text stands at its place.
+pub library-placing : (text : List ℕ) → Placing text (library text)
+library-placing text = of-library text (Placing text) tt (λ l line below q e h. add-placing text l line (line .form) refl q h)

@@ -4,9 +4,9 @@ use mathlib.Core.Path.{_≡_, refl, sym, ap, _∙_}
 use mathlib.Core.Bool.{Bool, true, false, _||_}
 use native.Mathlib.Omega.{arith}
 use lib.Dec.{eqb, ltb}
-use lib.Pow.{pow-lt, pow-add, pow-pos, high, shl-shr, shl-exact}
+use lib.Pow.{pow-lt, pow-add, high, shl-shr, shl-exact}
 use lib.Bits.{bitOr, or-step, or-shr}
-use borrow.Author.Tests.{eq-eqb, ne-eqb, eqb-true, eqb-false, ltb-true, ltb-false}
+use borrow.Author.Tests.{ne-eqb, eqb-true, eqb-false, ltb-true, ltb-false}
 use Rattle.words.specs.View.{bit}
 
 pub bit-zero : (d : ℕ) → bit 0 d ≡ false

@@ -13,7 +13,7 @@ use Rattle.model.specs.Base.{alter}
 use Rattle.model.specs.Library.{Class, Library}
 use Rattle.words.specs.View.{classWord, classCount, membersOf, classOf, libraryOf}
 use Rattle.words.specs.Store.{Unaltered, unaltered-then, unaltered-set, members-same, class-same, classes-same, classes-added, classes-altered, statements-same, objects-same}
-use Rattle.words.specs.Rows.{namePlace, bodyPlace, countPlace, withMember, withCount}
+use Rattle.words.specs.Rows.{namePlace, countPlace, withMember, withCount}
 
 -- Only words of class c are altered.
 pub record Around (ws : List ℕ) (c : ℕ) (ws′ : List ℕ) : Type 0 where
@@ -59,7 +59,8 @@ kept-then {ws} {c} {p} {ws₁} {ws₂} h k = record {
 }
 
 -- A store in the row, at its count or at a word of a member.
-kept-set : (ws : List ℕ) (c p i v : ℕ) → p < 2 → i < 136 → (i ≢ 1 + p → i < 8 + p * 64 → ⊥) → (i ≢ 1 + p → 72 + p * 64 ≤ i → ⊥) → Kept ws c p (set ws (8 + (c * 232 + i)) v)
+kept-set : (ws : List ℕ) (c p i v : ℕ) → p < 2 → i < 136 → (i ≢ 1 + p → i < 8 + p * 64 → ⊥) → (i ≢ 1 + p → 72 + p * 64 ≤ i → ⊥)
+    → Kept ws c p (set ws (8 + (c * 232 + i)) v)
 kept-set ws c p i v h l m n =
     let a = 8 + (c * 232 + i) in
     record {
@@ -80,6 +81,10 @@ module _ (ws : List ℕ) (c p : ℕ) (h : p < 2) where
       (kept-set (set ws (namePlace c p j) w) c p (40 + (p * 64 + j)) b h (omega arith) (λ d q. omega arith) (λ d q. omega arith))
 
 -- ---- the view of what stays
+
+-- A library with other classes.
+abbrev pub withClasses : Library → List Class → Library
+withClasses l cs = record { classes = cs; statements = l .statements; objects = l .objects }
 
 module _ {ws : List ℕ} {c p : ℕ} {ws′ : List ℕ} (h : Kept ws c p ws′) where
   pub kept-word : (i : ℕ) → i < 8 → i ≢ 1 + p → classWord ws′ c i ≡ classWord ws c i
@@ -121,21 +126,24 @@ module _ (text : List ℕ) {ws : List ℕ} {c : ℕ} {ws′ : List ℕ} where
 
     -- A class altered.
     pub around-altered : (g : Class → Class) → c < classCount ws → classOf text ws′ c ≡ g (classOf text ws c)
-        → libraryOf text ws′ ≡ record { classes = alter c g (libraryOf text ws .classes); statements = libraryOf text ws .statements; objects = libraryOf text ws .objects }
+        → libraryOf text ws′ ≡ withClasses (libraryOf text ws) (alter c g (libraryOf text ws .classes))
     around-altered g l e = λ i. record {
-      classes = classes-altered text ws ws′ g c l (h .low 0 (omega arith) (omega arith)) (λ j p q. h .low j (omega arith) (omega arith)) (λ j p q. h .high j (omega arith) (omega arith)) e i;
+      classes =
+          classes-altered text ws ws′ g c l (h .low 0 (omega arith) (omega arith)) (λ j p q. h .low j (omega arith) (omega arith))
+          (λ j p q. h .high j (omega arith) (omega arith)) e i;
       statements = same-statements (omega arith) i;
       objects = same-objects (omega arith) i;
     }
 
     -- The class behind the last, counted at last.
     pub around-added : classCount ws ≡ c → c < 16 → 0 < length ws
-        → libraryOf text (set ws′ 0 (c + 1)) ≡ record { classes = libraryOf text ws .classes ++ (classOf text ws′ c ∷ []); statements = libraryOf text ws .statements; objects = libraryOf text ws .objects }
+        → libraryOf text (set ws′ 0 (c + 1)) ≡ withClasses (libraryOf text ws) (libraryOf text ws .classes ++ (classOf text ws′ c ∷ []))
     around-added e l z =
         let ws₂ = set ws′ 0 (c + 1) in
         λ i. record {
           classes =
-              (classes-added text ws ws₂ c e l (getD-set-same ws′ 0 (c + 1) 0 (omega (arith, h .size))) (λ j p q. other j (omega arith) ∙ h .low j (omega arith) (omega arith))
+              (classes-added text ws ws₂ c e l (getD-set-same ws′ 0 (c + 1) 0 (omega (arith, h .size)))
+              (λ j p q. other j (omega arith) ∙ h .low j (omega arith) (omega arith))
               ∙ ap (λ (k : Class). libraryOf text ws .classes ++ (k ∷ [])) (class-same text ws′ ws₂ c (λ j p q. other j (omega arith)))) i;
           statements = (statements-same text ws′ ws₂ (other 1 (omega arith)) (λ j p q. other j (omega arith)) ∙ same-statements l) i;
           objects = (objects-same text ws′ ws₂ (other 2 (omega arith)) (λ j p q. other j (omega arith)) ∙ same-objects l) i;

@@ -1,7 +1,7 @@
 -- Look-ups in the library that the tables say: how long its lists are, what stands at a number, and that a name is known
 -- exactly if its place is not the end.
 use Prim.Native.Nat.{ℕ, zero, suc, _≤_, _<_}
-use mathlib.Core.Path.{_≡_, refl, sym, ap, _∙_}
+use mathlib.Core.Path.{_≡_, refl, ap, _∙_}
 use mathlib.Core.Bool.{Bool, true, false, cond}
 use mathlib.Core.List.{List, []}
 use native.Mathlib.Omega.{arith}
@@ -10,9 +10,9 @@ use lib.Dec.{ltb}
 use borrow.Author.Tests.{ltb-true, ltb-false}
 use Rattle.model.specs.Base.{same, any, firstAt, upto}
 use Rattle.model.specs.Word.{Name}
-use Rattle.model.specs.Library.{Member, Class, noMember, noClass, memberPlace, member, among, classNumber, isClass, classAt}
+use Rattle.model.specs.Library.{Member, Class, noMember, noClass, memberPlace, among, classNumber, isClass, classAt}
 use Rattle.words.specs.View.{classCount, statementCount, objectCount, memberCount, memberAt, membersOf, classOf, placedOf, objectOf, libraryOf}
-use Rattle.words.specs.Upto.{length-upto, getD-upto, any-first}
+use Rattle.words.specs.Upto.{length-upto, getD-upto, any-first, first-within}
 
 -- How many fields (p is 0) or methods (p is 1) the class with a number has; none where no class has it.
 unfoldable pub shownCount : List ℕ → ℕ → ℕ → ℕ
@@ -71,13 +71,18 @@ module _ (text ws : List ℕ) where
   unfolding membersOf
   member-at k p j h = getD-upto (memberAt text ws k p) (memberCount ws k p) j noMember h
 
+  pub class-number-within : (n : Name) → classNumber (libraryOf text ws) n ≤ classCount ws
+  unfolding classNumber
+  class-number-within n = omega (arith, first-within (λ (c : Class). same (c .name) n) (libraryOf text ws .classes), class-count)
+
   pub is-class : (n : Name) → isClass (libraryOf text ws) n ≡ ltb (classNumber (libraryOf text ws) n) (classCount ws)
   unfolding isClass classNumber
   is-class n =
       let known : Class → Bool = λ c. same (c .name) n in
       any-first known (libraryOf text ws .classes) ∙ ap (ltb (firstAt known (libraryOf text ws .classes))) class-count
 
-  pub is-object : (n : Name) → any (λ o. same (o .name) n) (libraryOf text ws .objects) ≡ ltb (firstAt (λ o. same (o .name) n) (libraryOf text ws .objects)) (objectCount ws)
+  pub is-object : (n : Name)
+      → any (λ o. same (o .name) n) (libraryOf text ws .objects) ≡ ltb (firstAt (λ o. same (o .name) n) (libraryOf text ws .objects)) (objectCount ws)
   is-object n = any-first _ (libraryOf text ws .objects) ∙ ap (ltb _) object-count
 
 -- A member of that name is there exactly if its place is before the end.

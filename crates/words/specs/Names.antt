@@ -1,5 +1,5 @@
 -- The words of names and of parts of the text, as the code makes them, and that they say what they were made of.
-use Prim.Native.Nat.{ℕ, _+_, _*_, _/_, _%_, _≤_, _<_}
+use Prim.Native.Nat.{ℕ, _+_, _*_, _/_, _%_, _<_}
 use mathlib.Core.Path.{_≡_, ap₂}
 use mathlib.Core.List.{List}
 use native.Mathlib.Omega.{arith}

@@ -52,10 +52,13 @@ module _ (text ws : List ℕ) (k p j w b : ℕ) where
   unfolding membersOf memberCount classWord
   members-altered h l =
       let ws′ = withMember ws k p j w b in
-      let e = getD-set-other (set ws (namePlace k p j) w) (bodyPlace k p j) (countPlace k p) b 0 (λ q. omega arith) ∙ getD-set-other ws (namePlace k p j) (countPlace k p) w 0 (λ q. omega arith) in
+      let e =
+      getD-set-other (set ws (namePlace k p j) w) (bodyPlace k p j) (countPlace k p) b 0 (λ q. omega arith)
+      ∙ getD-set-other ws (namePlace k p j) (countPlace k p) w 0 (λ q. omega arith) in
       let n : memberCount ws′ k p ≡ memberCount ws k p = omega arith in
       ap (upto (memberAt text ws′ k p)) n
-      ∙ upto-alter (memberAt text ws k p) (memberAt text ws′ k p) (λ m. memberIn text w b) (memberCount ws k p) j l (member-here h) (λ i q d. member-other i (omega arith) (omega arith) d)
+      ∙ upto-alter (memberAt text ws k p) (memberAt text ws′ k p) (λ m. memberIn text w b) (memberCount ws k p) j l (member-here h)
+      (λ i q d. member-other i (omega arith) (omega arith) d)
 
   pub members-added : bodyPlace k p j < length ws → j ≡ memberCount ws k p → j < 32
       → membersOf text (withCount (withMember ws k p j w b) k p (j + 1)) k p ≡ membersOf text ws k p ++ (memberIn text w b ∷ [])
@@ -63,7 +66,9 @@ module _ (text ws : List ℕ) (k p j w b : ℕ) where
   members-added h e l =
       let ws₁ = withMember ws k p j w b in
       let ws′ = withCount ws₁ k p (j + 1) in
-      let s = getD-set-same ws₁ (countPlace k p) (j + 1) 0 (omega (arith, length-set (set ws (namePlace k p j) w) (bodyPlace k p j) b, length-set ws (namePlace k p j) w)) in
+      let s =
+      getD-set-same ws₁ (countPlace k p) (j + 1) 0
+      (omega (arith, length-set (set ws (namePlace k p j) w) (bodyPlace k p j) b, length-set ws (namePlace k p j) w)) in
       upto-grown (memberAt text ws k p) (memberAt text ws′ k p) j (memberCount ws′ k p) (omega arith)
       (λ i q. counted i ∙ member-other i (omega arith) l (λ z. omega arith))
       ∙ ap₂ (λ (n : ℕ) (m : Member). upto (memberAt text ws k p) n ++ (m ∷ [])) e (counted j ∙ member-here h)

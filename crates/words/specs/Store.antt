@@ -13,7 +13,7 @@ use borrow.Author.Tests.{ltb-true, ltb-false}
 use Rattle.model.specs.Base.{upto, alter}
 use Rattle.model.specs.Text.{words}
 use Rattle.model.specs.Form.{formOf}
-use Rattle.model.specs.Library.{Class, Placed, Library}
+use Rattle.model.specs.Library.{Class, Placed}
 use Rattle.words.specs.View.{nameOf, partOf, classWord, objectWord, statementWord, classCount, statementCount, objectCount, memberCount, statementIn, numbersIn, memberIn, memberAt, membersOf, bit, classOf, placedOf, objectOf, libraryOf}
 use Rattle.words.specs.Upto.{upto-same, upto-grown, upto-alter}
 

@@ -98,6 +98,15 @@ module _ {A : Type 0} (p : A → Bool) where
       go true h = sym (lt-ltb 0 (suc (length l)) (omega arith))
       go false h = h ∙ sym (leb·suc-suc (suc (firstAt p l)) (length l))
 
+  pub first-within : (l : List A) → firstAt p l ≤ length l
+  unfolding firstAt
+  first-within [] = omega arith
+  first-within (x ∷ l) = go (p x) (first-within l)
+    where
+      go : (t : Bool) → firstAt p l ≤ length l → cond t 0 (suc (firstAt p l)) ≤ suc (length l)
+      go true h = omega arith
+      go false h = omega arith
+
   first-kept : (l m : List A) → firstAt p l < length l → firstAt p (l ++ m) ≡ firstAt p l
   unfolding firstAt
   first-kept [] m h = absurd (not-suc-le-zero h)
@@ -114,7 +123,8 @@ module _ {A : Type 0} (p : A → Bool) where
   first-past false [] x h e = rw e
   first-past t (y ∷ l) x h e = go (p y) h (λ k. first-past t l x k e)
     where
-      past : (u : Bool) → cond u (length l) (suc (length l)) ≡ firstAt p (l ++ (x ∷ [])) → suc (firstAt p (l ++ (x ∷ []))) ≡ cond u (suc (length l)) (suc (suc (length l)))
+      past : (u : Bool) → cond u (length l) (suc (length l)) ≡ firstAt p (l ++ (x ∷ []))
+          → suc (firstAt p (l ++ (x ∷ []))) ≡ cond u (suc (length l)) (suc (suc (length l)))
       past true k = ap suc (sym k)
       past false k = ap suc (sym k)
 

@@ -1,6 +1,6 @@
 -- `words::class_word` meets its contract: it gets the word that the definition names.
-use Rattle.words.specs.View.{classWord}
 use borrow.Author.Needs.{needs}
+use Rattle.words.specs.View.{classWord}
 use Rattle.words.proofs.class_word.Statement.{statement}
 use Rattle.words.proofs.class_word.Tie as tie
 

@@ -42,7 +42,9 @@ returns c =
     let m = h .before in
     let a = m .before .before .before .before .args in
     let hit = told (λ (x : ℕ). same (nameOf (a .text .now) x) (a .name .now)) (w .ensures) (c .before .is-named .ensures) (c .if1 .taken) in
-    sym (seek-here (named (a .name .now)) (memberAt (a .text .now) (a .tables .now) (a .class) (a .kind)) (h .loop .j) (h .loop .inv .1) hit (memberCount (a .tables .now) (a .class) (a .kind)) (omega (arith, m .member-count .ensures)))
+    sym
+    (seek-here (named (a .name .now)) (memberAt (a .text .now) (a .tables .now) (a .class) (a .kind)) (h .loop .j) (h .loop .inv .1) hit
+    (memberCount (a .tables .now) (a .class) (a .kind)) (omega (arith, m .member-count .ensures)))
 
 add-j : tie.Need-add-j Inv-loop μ-loop
 add-j c = search needs
@@ -66,7 +68,9 @@ returns-2 c =
     let h = c .before in
     let m = h .before in
     let a = m .before .before .before .before .args in
-    sym (seek-end (named (a .name .now)) (memberAt (a .text .now) (a .tables .now) (a .class) (a .kind)) (h .loop .j) (h .loop .inv .1) (memberCount (a .tables .now) (a .class) (a .kind)) (omega (arith, m .member-count .ensures)))
+    sym
+    (seek-end (named (a .name .now)) (memberAt (a .text .now) (a .tables .now) (a .class) (a .kind)) (h .loop .j) (h .loop .inv .1)
+    (memberCount (a .tables .now) (a .class) (a .kind)) (omega (arith, m .member-count .ensures)))
 
 pub find-spec : {M : Type 1} → statement M
 find-spec =

@@ -1,8 +1,8 @@
 -- `words::is_class` meets its contract: a name is known exactly if its number is not the end.
+use borrow.Author.Needs.{needs}
 use mathlib.Core.Path.{sym, ap₂, _∙_}
 use lib.Dec.{ltb}
 use Rattle.words.specs.Look.{is-class}
-use borrow.Author.Needs.{needs}
 use Rattle.words.proofs.is_class.Statement.{statement}
 use Rattle.words.proofs.is_class.Tie as tie
 

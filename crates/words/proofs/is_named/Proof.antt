@@ -1,9 +1,9 @@
 -- `words::is_named` meets its contract: the part compared is the name that the word says.
+use borrow.Author.Needs.{needs}
 use Prim.Native.Nat.{ℕ}
 use mathlib.Core.Path.{ap, _∙_}
 use mathlib.Core.List.{List}
 use Rattle.model.specs.Base.{same}
-use borrow.Author.Needs.{needs}
 use Rattle.words.proofs.is_named.Statement.{statement}
 use Rattle.words.proofs.is_named.Tie as tie
 

@@ -1,7 +1,7 @@
 -- `words::member_count` meets its contract: it caps the word that the definition names.
+use borrow.Author.Needs.{needs}
 use native.Mathlib.Omega.{arith}
 use Rattle.words.specs.View.{classWord, memberCount}
-use borrow.Author.Needs.{needs}
 use Rattle.words.proofs.member_count.Statement.{statement}
 use Rattle.words.proofs.member_count.Tie as tie
 

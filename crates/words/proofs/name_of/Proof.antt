@@ -1,6 +1,6 @@
 -- `words::name_of` meets its contract: a name is a part of the text.
-use Rattle.words.specs.View.{nameOf}
 use borrow.Author.Needs.{needs}
+use Rattle.words.specs.View.{nameOf}
 use Rattle.words.proofs.name_of.Statement.{statement}
 use Rattle.words.proofs.name_of.Tie as tie
 

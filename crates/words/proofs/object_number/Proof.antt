@@ -42,7 +42,9 @@ returns c =
     let m = h .before in
     let a = m .before .before .before .before .args in
     let hit = told (λ (x : ℕ). same (nameOf (a .text .now) x) (a .name .now)) (w .ensures) (c .before .is-named .ensures) (c .if1 .taken) in
-    sym (seek-here (named (a .name .now)) (objectOf (a .text .now) (a .tables .now)) (h .loop .o) (h .loop .inv .1) hit (objectCount (a .tables .now)) (omega (arith, m .object-count .ensures)))
+    sym
+    (seek-here (named (a .name .now)) (objectOf (a .text .now) (a .tables .now)) (h .loop .o) (h .loop .inv .1) hit (objectCount (a .tables .now))
+    (omega (arith, m .object-count .ensures)))
 
 add-o : tie.Need-add-o Inv-loop μ-loop
 add-o c = search needs
@@ -66,7 +68,9 @@ returns-2 c =
     let h = c .before in
     let m = h .before in
     let a = m .before .before .before .before .args in
-    sym (seek-end (named (a .name .now)) (objectOf (a .text .now) (a .tables .now)) (h .loop .o) (h .loop .inv .1) (objectCount (a .tables .now)) (omega (arith, m .object-count .ensures)))
+    sym
+    (seek-end (named (a .name .now)) (objectOf (a .text .now) (a .tables .now)) (h .loop .o) (h .loop .inv .1) (objectCount (a .tables .now))
+    (omega (arith, m .object-count .ensures)))
 
 pub object-number-spec : {M : Type 1} → statement M
 object-number-spec =

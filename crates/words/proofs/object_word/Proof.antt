@@ -1,6 +1,6 @@
 -- `words::object_word` meets its contract: it gets the word that the definition names.
-use Rattle.words.specs.View.{objectWord}
 use borrow.Author.Needs.{needs}
+use Rattle.words.specs.View.{objectWord}
 use Rattle.words.proofs.object_word.Statement.{statement}
 use Rattle.words.proofs.object_word.Tie as tie
 

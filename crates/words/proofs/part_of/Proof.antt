@@ -1,6 +1,6 @@
 -- `words::part_of` meets its contract: it takes the part that the definition names.
-use Rattle.words.specs.View.{partOf}
 use borrow.Author.Needs.{needs}
+use Rattle.words.specs.View.{partOf}
 use Rattle.words.proofs.part_of.Statement.{statement}
 use Rattle.words.proofs.part_of.Tie as tie
 

@@ -1,9 +1,9 @@
 -- `words::row_word` meets its contract: it gets the word that the definition names.
+use borrow.Author.Needs.{needs}
 use Prim.Native.Nat.{ℕ}
 use mathlib.Core.Path.{ap, _∙_}
 use lib.ListN.{getD}
 use Rattle.words.specs.View.{classWord}
-use borrow.Author.Needs.{needs}
 use Rattle.words.proofs.row_word.Statement.{statement}
 use Rattle.words.proofs.row_word.Tie as tie
 

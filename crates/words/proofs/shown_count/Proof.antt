@@ -1,9 +1,9 @@
 -- `words::shown_count` meets its contract: the two ways of its test are the two cases of the definition.
+use borrow.Author.Needs.{needs}
 use native.Mathlib.Omega.{arith}
 use borrow.Author.Tests.{lt-ltb, le-ltb}
 use Rattle.words.specs.View.{classCount}
 use Rattle.words.specs.Look.{shownCount}
-use borrow.Author.Needs.{needs}
 use Rattle.words.proofs.shown_count.Statement.{statement}
 use Rattle.words.proofs.shown_count.Tie as tie
 

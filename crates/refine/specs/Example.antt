@@ -1,0 +1,116 @@
+-- One small text with its words: they are a fresh start, so what is proved of such words holds of these with nothing assumed.
+use Prim.Native.Nat.{ℕ, zero, suc, _+_, _≤_, _<_}
+use native.Mathlib.Omega.{arith}
+use mathlib.Core.Path.{_≡_, refl, sym, ap, _∙_, fun-ext}
+use mathlib.Core.Bool.{Bool, false, _&&_}
+use mathlib.Core.Option.{none}
+use mathlib.Core.List.{List, [], _∷_, _++_}
+use lib.ListN.{length, getD, replicate}
+use lib.Dec.{eqb, ltb}
+use borrow.Author.Tests.{ne-eqb, le-ltb}
+use Rattle.model.specs.Base.{bytes, any, same}
+use Rattle.model.specs.Expression.{field, argument, apply, plus}
+use Rattle.model.specs.Text.{words, pieces}
+use Rattle.model.specs.Form.{assign, statementLine, formOf}
+use Rattle.model.specs.Library.{Library, noMember, classAt, memberPlace, byFirstParent, methodNames}
+use Rattle.model.specs.Read.{library}
+use Rattle.model.specs.Vector.{Program, program, commute}
+use Rattle.model.specs.Image.{mask, commuteMask}
+use Rattle.model.specs.Message.{baseOf, inDomain}
+use Rattle.model.specs.Machine.{Call}
+use Rattle.words.specs.View.{partOf, classWord, objectWord, statementWord, classCount, memberCount, bit, libraryOf}
+use Rattle.words.specs.Bits.{bit-zero}
+use Rattle.theory.specs.VectorLaws.{program-compiled}
+use Rattle.state.specs.Row.{blank}
+use Rattle.state.specs.Calls.{rowOf, misfitOf, mark}
+use Rattle.refine.specs.Rep.{statementAt, Distinct, Fits, Fresh}
+use Rattle.refine.specs.Bits.{bit-one}
+use Rattle.refine.specs.Course.{calledAll, InOrder, in-order}
+
+abbrev text : List ℕ
+text = bytes "class c\nfield f\nmethod m\nset f + f arg\nend\nobject o c\n"
+
+abbrev tables : List ℕ
+tables =
+    (1 ∷ 1 ∷ 1 ∷ 1 ∷ 54 ∷ mark ∷ 0 ∷ 0 ∷ 193 ∷ 1 ∷ 1 ∷ 0 ∷ 0 ∷ 1 ∷ 0 ∷ 0 ∷ 449 ∷ [])
+    ++ (replicate 63 0 ++ ((737 ∷ []) ++ (replicate 31 0 ++ ((1 ∷ []) ++ (replicate 63 0 ++ ((1 ∷ []) ++ (replicate 3543 0
+    ++ ((1601 ∷ 0 ∷ 0 ∷ 3473408 ∷ []) ++ (replicate 252 0 ++ ((1638413 ∷ []) ++ replicate 4095 0))))))))))
+
+abbrev p : Program
+p = program (library text)
+
+only : (P : ℕ → Type 0) → P 0 → (k : ℕ) → k < 1 → P k
+only P h zero l = h
+only P h (suc k) l = absurd (omega arith)
+
+-- The library, but for its class's ancestors.
+abbrev withAncestors : (ℕ → Bool) → Library
+withAncestors above =
+    record {
+      classes = record {
+        name = bytes "c";
+        ancestors = above;
+        fields = record { origin = 0; name = bytes "f"; first = 0; count = 0 } ∷ [];
+        methods = record { origin = 0; name = bytes "m"; first = 0; count = 1 } ∷ [];
+        latest = 0;
+      } ∷ [];
+      statements = record { statement = record { guard = none; action = assign (bytes "f") (apply plus (field (bytes "f")) argument) }; at = 25; size = 13 } ∷ [];
+      objects = record { name = bytes "o"; class = 0; values = [] } ∷ [];
+    }
+
+words-library : libraryOf text tables ≡ withAncestors (bit 0)
+unfolding libraryOf
+words-library = refl
+
+text-library : library text ≡ withAncestors (λ d. false)
+unfolding library
+text-library = refl
+
+fits : Fits text tables p
+unfolding program library memberCount classWord objectWord bit mask commute memberPlace byFirstParent baseOf partOf statementWord formOf pieces any same
+fits =
+    record {
+      library = words-library ∙ ap withAncestors (fun-ext bit-zero) ∙ sym text-library;
+      resolve = refl;
+      commuting = λ c j h. only (λ k. (i : ℕ) → i < memberCount tables k 1
+          → classWord tables k (200 + i) ≡ commuteMask (getD (p .vectors) k []) (getD (getD (p .vectors) k []) i []))
+          (only (λ i. classWord tables 0 (200 + i) ≡ commuteMask (getD (p .vectors) 0 []) (getD (getD (p .vectors) 0 []) i [])) refl) c h j;
+      rows = only (λ k. length (getD (p .vectors) k []) ≡ memberCount tables k 1) refl;
+      domains = λ c d h. only (λ k. bit (classWord tables k 5) d ≡ (ltb d 1 && inDomain p k d)) (bit-one 0 d (omega arith) ∙ first d) c h;
+      bases = only (λ o. objectWord tables o 2 ≡ baseOf p o) refl;
+      total = refl;
+      known = only (λ o. objectWord tables o 1 < classCount tables) (omega arith);
+      distinct = only (Distinct p) (only (λ j. memberPlace (classAt (p .library) 0 .methods) (getD (methodNames (p .library) 0) j []) ≡ j) refl);
+      bodies = λ c j h. only (λ k. (i : ℕ) → i < memberCount tables k 1 → let b = getD (classAt (p .library) k .methods) i noMember in b .first + b .count ≤ 1)
+          (only (λ i. let b = getD (classAt (p .library) 0 .methods) i noMember in b .first + b .count ≤ 1) (omega arith)) c h j;
+      lines = only (λ s. formOf (words (partOf text (statementWord tables s))) ≡ statementLine (statementAt (p .library) s)) refl;
+    }
+  where
+    first : (d : ℕ) → eqb 0 d ≡ (ltb d 1 && inDomain p 0 d)
+    first zero = refl
+    first (suc d) = ne-eqb 0 (suc d) (omega arith) ∙ sym (ap (λ (b : Bool). b && inDomain p 0 (suc d)) (le-ltb (suc d) 1 (omega arith)))
+
+-- The words of a start, with the one value v.
+abbrev start : List ℕ
+start = tables ++ replicate 18112 0
+
+-- They are the words of a fresh start.
+pub example-fresh : (v : ℕ) → Fresh text start (v ∷ []) p
+unfolding misfitOf rowOf
+example-fresh v = record { fit = refl; fits = fits; rows = row }
+  where
+    row : (t : ℕ) → t < 8 → rowOf start t ≡ blank
+    row zero h = refl
+    row (suc zero) h = refl
+    row (suc (suc zero)) h = refl
+    row (suc (suc (suc zero))) h = refl
+    row (suc (suc (suc (suc zero)))) h = refl
+    row (suc (suc (suc (suc (suc zero))))) h = refl
+    row (suc (suc (suc (suc (suc (suc zero)))))) h = refl
+    row (suc (suc (suc (suc (suc (suc (suc zero))))))) h = refl
+    row (suc (suc (suc (suc (suc (suc (suc (suc t)))))))) h = absurd (omega arith)
+
+-- Demand 3 for these words, whatever the calls.
+pub example-in-order : (v : ℕ) (cs : List Call) → ((t : ℕ) → t < 8 → getD (rowOf (calledAll text start (v ∷ []) cs .words) t) 0 0 ≡ 0)
+    → InOrder text p (v ∷ []) cs (calledAll text start (v ∷ []) cs)
+example-in-order v cs shut = in-order text start (v ∷ []) p (program-compiled (library text)) (example-fresh v) cs shut

@@ -1,0 +1,148 @@
+-- A value's note, made where there is none; and the turn that sets a value.
+use Prim.Native.Nat.{ℕ, suc, _+_, _*_, _/_, _%_, _^_, _<_}
+use native.Mathlib.Omega.{arith}
+use native.Mathlib.Decide.{ℕ-discrete}
+use mathlib.Core.Path.{_≡_, refl, sym, ap, ap₂, subst, _∙_}
+use mathlib.Core.Logic.{_≢_}
+use mathlib.Core.Bool.{Bool, true, false, cond, _||_, or-false, or-true}
+use mathlib.Core.Option.{Option, none, some}
+use mathlib.Core.List.{List, _∷_}
+use lib.ListN.{length, getD, set, length-set}
+use lib.Bits.{bitOr}
+use lib.Dec.{eqb, ltb}
+use borrow.Author.Tests.{lt-ltb, ltb-true, ne-eqb}
+use Rattle.model.specs.Base.{put}
+use Rattle.model.specs.Vector.{Program}
+use Rattle.model.specs.Message.{store, Activation, withRest}
+use Rattle.model.specs.Undo.{Undo, firstValue}
+use Rattle.words.specs.View.{bit}
+use Rattle.words.specs.Bits.{bit-or}
+use Rattle.twophase.specs.Base.{at-or, put-same, put-other, put-id}
+use Rattle.theory.specs.ListLaws.{eqb-same}
+use Rattle.state.specs.Row.{act, noteIf, noteAt, notedRow, skipRow, goingTo}
+use Rattle.refine.specs.Rep.{between, activationOf, stackOf, runOf, Running}
+use Rattle.refine.specs.Bits.{bit-one}
+use Rattle.refine.specs.Runs.{Alike, activation-same, stack-same, run-same, running-same}
+use Rattle.refine.specs.Stores.{else-word, new-word}
+use Rattle.refine.specs.Going.{Goes, onwardRun, skip-goes}
+
+-- A note by its mark and its word.
+note-is : (row : List ℕ) (j : ℕ) → j < 2048 → (b : Bool) → bit (getD row (152 + j / 32) 0) (j % 32) ≡ b → noteAt row j ≡ noteIf b (getD row (216 + j) 0)
+unfolding noteAt
+note-is row j h b e = rw (lt-ltb j 2048 h, e) refl
+
+note-alike : (row row′ : List ℕ) (j : ℕ) → (j < 2048 → bit (getD row′ (152 + j / 32) 0) (j % 32) ≡ bit (getD row (152 + j / 32) 0) (j % 32))
+    → getD row′ (216 + j) 0 ≡ getD row (216 + j) 0 → noteAt row′ j ≡ noteAt row j
+unfolding noteAt
+note-alike row row′ j e f = go (ltb j 2048) refl
+  where
+    go : (b : Bool) → ltb j 2048 ≡ b → cond b (noteIf (bit (getD row′ (152 + j / 32) 0) (j % 32)) (getD row′ (216 + j) 0)) none
+        ≡ cond b (noteIf (bit (getD row (152 + j / 32) 0) (j % 32)) (getD row (216 + j) 0)) none
+    go true h = ap₂ noteIf (e (ltb-true j 2048 h)) f
+    go false h = refl
+
+module _ (row : List ℕ) (size : length row ≡ 2264) (k v : ℕ) (few : k < 2048) where
+  abbrev markAt : ℕ
+  markAt = 152 + k / 32
+
+  abbrev marks : ℕ
+  marks = getD row markAt 0
+
+  abbrev one : List ℕ
+  one = set row markAt (bitOr marks (2 ^ (k % 32)))
+
+  -- The row with the note made.
+  abbrev made : List ℕ
+  made = set one (216 + k) v
+
+  made-mark : (d : ℕ) → bit (getD made markAt 0) d ≡ (bit marks d || eqb (k % 32) d)
+  made-mark d =
+      ap (λ (m : ℕ). bit m d) (else-word one (216 + k) v markAt (omega arith) ∙ new-word row markAt (bitOr marks (2 ^ (k % 32))) (omega arith))
+      ∙ bit-or marks (2 ^ (k % 32)) d ∙ ap (λ (b : Bool). bit marks d || b) (bit-one (k % 32) d (omega arith))
+
+  made-other : (i : ℕ) → (i ≢ markAt) × (i ≢ 216 + k) → getD made i 0 ≡ getD row i 0
+  made-other i n = else-word one (216 + k) v i (n .1) ∙ else-word row markAt (bitOr marks (2 ^ (k % 32))) i (n .0)
+
+  made-notes : bit marks (k % 32) ≡ false → (j : ℕ) → noteAt made j ≡ put (noteAt row) k (some v) j
+  made-notes clear = at-or (λ (j : ℕ). noteAt made j ≡ put (noteAt row) k (some v) j) k
+      (note-is made k few true (made-mark (k % 32) ∙ ap (λ (b : Bool). bit marks (k % 32) || b) (eqb-same (k % 32)) ∙ or-true (bit marks (k % 32)))
+      ∙ ap {B = Option ℕ} some (new-word one (216 + k) v (omega (arith, length-set row markAt (bitOr marks (2 ^ (k % 32))))))
+      ∙ sym (put-same (noteAt row) k (some v)))
+      (λ j ne. go j ne (ℕ-discrete (j / 32) (k / 32)) ∙ sym (put-other (noteAt row) k (some v) j ne))
+    where
+      bits : (j : ℕ) → (j ≡ k → ⊥) → j / 32 ≡ k / 32 → bit (getD made markAt 0) (j % 32) ≡ bit marks (j % 32)
+      bits j ne e =
+          made-mark (j % 32) ∙ ap (λ (b : Bool). bit marks (j % 32) || b) (ne-eqb (k % 32) (j % 32) (λ z. ne (omega arith))) ∙ or-false (bit marks (j % 32))
+
+      saved : (j : ℕ) → (j ≡ k → ⊥) → getD made (216 + j) 0 ≡ getD row (216 + j) 0
+      saved j ne = made-other (216 + j) (omega arith, λ e. ne (omega arith))
+
+      go : (j : ℕ) → (j ≡ k → ⊥) → Dec (j / 32 ≡ k / 32) → noteAt made j ≡ noteAt row j
+      go j ne (yes e) = note-alike row made j (λ l. subst (λ (i : ℕ). bit (getD made (152 + i) 0) (j % 32) ≡ bit (getD row (152 + i) 0) (j % 32))
+          (sym e) (bits j ne e)) (saved j ne)
+      go j ne (no d) = note-alike row made j (λ l. ap (λ (m : ℕ). bit m (j % 32)) (made-other (152 + j / 32) (λ e. d (omega arith), omega arith))) (saved j ne)
+
+  -- The notes of the row that has noted a value, and what else it has kept.
+  pub record Noted (row′ : List ℕ) : Type 0 where
+    pub long : length row′ ≡ 2264
+    pub alike : Alike 0 152 row row′
+    pub notes : (j : ℕ) → noteAt row′ j ≡ put (noteAt row) k (firstValue (noteAt row k) v) j
+
+  -- A value is noted once: the first note is kept.
+  pub noted-row : Noted (notedRow row k v)
+  unfolding notedRow
+  noted-row = rw (lt-ltb k 2048 few) (go (bit marks (k % 32)) refl)
+    where
+      first : (x : Option ℕ) → noteAt row k ≡ x → (j : ℕ) → put (noteAt row) k (firstValue x v) j ≡ put (noteAt row) k (firstValue (noteAt row k) v) j
+      first x e j = ap (λ (y : Option ℕ). put (noteAt row) k (firstValue y v) j) (sym e)
+
+      go : (b : Bool) → bit marks (k % 32) ≡ b → Noted (cond b row made)
+      go true e =
+          let n : noteAt row k ≡ some (getD row (216 + k) 0) = note-is row k few true e in
+          record {
+            long = size;
+            alike = λ i g h. refl;
+            notes = λ j. sym (ap (λ (u : Undo). u j) (put-id (noteAt row) k)) ∙ ap (λ (y : Option ℕ). put (noteAt row) k y j) n
+                ∙ first (some (getD row (216 + k) 0)) n j;
+          }
+      go false e =
+          record {
+            long = length-set one (216 + k) v ∙ length-set row markAt (bitOr marks (2 ^ (k % 32))) ∙ size;
+            alike = λ i g h. made-other i (omega arith);
+            notes = λ j. made-notes e j ∙ first none (note-is row k few false e) j;
+          }
+
+-- A value set by a statement.
+pub assign-goes : (text tables : List ℕ) (p : Program) (row values : List ℕ) → length row ≡ 2264 → Running tables p row → (k : ℕ) → getD row 1 0 ≡ suc k
+    → getD row 2 0 < 1024 → act row k 0 < 4096 → (i v : ℕ) → i < 2048
+    → Goes text tables p row values (goingTo (skipRow (notedRow row i (getD values i 0))) (set values i v))
+    (onwardRun (runOf text p row) (withRest (activationOf (p .library) row k) (between (p .library) (suc (act row k 0)) (act row k 1))
+    ∷ stackOf (p .library) row k)) (store i v)
+unfolding act
+assign-goes text tables p row values size runs k deep early h i v few =
+    let l = p .library in
+    let mid = notedRow row i (getD values i 0) in
+    let n = noted-row row size i (getD values i 0) few in
+    let le = runs .depth in
+    let word : (j : ℕ) → j < 152 → getD mid j 0 ≡ getD row j 0 = λ j g. n .alike j (omega arith) g in
+    let runs′ = running-same text p tables row mid runs (λ j g q. word j (omega arith)) in
+    let same = run-same text p tables row mid runs (λ j g q. word j (omega arith)) in
+    let w1 = word 1 (omega arith) in
+    let w2 = word 2 (omega arith) in
+    let w16 = word (16 + k * 5 + 0) (omega arith) in
+    let w17 = word (16 + k * 5 + 1) (omega arith) in
+    let g = skip-goes text tables p mid values (n .long) runs′ k (w1 ∙ deep) (omega arith) (omega arith) in
+    record {
+      said = refl;
+      fields = refl;
+      size = g .size;
+      phase = g .phase ∙ word 0 (omega arith);
+      run = ap₂ onwardRun (sym same)
+          (ap₂ (λ (x : Activation) (xs : List Activation). x ∷ xs)
+          (ap₂ withRest (sym (activation-same l row mid k (λ j a b. word j (omega arith)))) (ap₂ (between l) (ap suc (sym w16)) (sym w17)))
+          (sym (stack-same l row mid k (λ j a b. word j (omega arith)))))
+          ∙ g .run;
+      runs = g .runs;
+      notes = λ j. g .notes j ∙ n .notes j;
+      locks = λ j a b. g .locks j a b ∙ word j b;
+    }

@@ -1,0 +1,155 @@
+-- A send: 36, 40 with the lowest slot in the way, or its locks and its message's start, over the words and in the model.
+use Prim.Native.Nat.{ℕ, zero, suc, _<_}
+use native.Mathlib.Omega.{arith}
+use mathlib.Core.Path.{_≡_, refl, sym, ap, ap₂, subst, _∙_}
+use mathlib.Core.Bool.{Bool, true, false, not, cond, _&&_}
+use mathlib.Core.Option.{Option, none, some, orElse}
+use mathlib.Core.List.{List, [], _++_}
+use lib.ListN.{length, length-map}
+use lib.Dec.{eqb, leb, ltb}
+use borrow.Author.Tests.{leb-true, leb-false, lt-leb, ltb-true, lt-ltb, le-ltb}
+use Rattle.model.specs.Base.{least}
+use Rattle.model.specs.Library.{classAt, methodNames}
+use Rattle.model.specs.Vector.{Program}
+use Rattle.model.specs.Message.{Target, object, class, domain, Message}
+use Rattle.model.specs.Message as Model
+use Rattle.model.specs.Lock.{locksFor}
+use Rattle.model.specs.Service.{Slot, closed, opened, Transaction, World, heldBy, granted, sent}
+use Rattle.model.specs.Service as Told
+use Rattle.model.specs.Machine.{service, methodAt, Request, to, find}
+use Rattle.words.specs.View.{objectWord, classCount, objectCount, memberCount}
+use Rattle.state.specs.Request.{Wanted, locked, begunRow}
+use Rattle.state.specs.Calls.{refused, tablesOf, rowOf, wanted, inTheWay, grantedOr, sentTo, sentBy}
+use Rattle.refine.specs.Rep.{Holds, OpenRep, SlotRep, Rep}
+use Rattle.refine.specs.Tables.{class-total, object-total, method-total, class-is}
+use Rattle.refine.specs.Runs.{note-same}
+use Rattle.refine.specs.Locks.{blank-holds, holds-alike}
+use Rattle.refine.specs.RowTest.{Aims, one, each, whole, row-clash}
+use Rattle.refine.specs.Taking.{took-locks}
+use Rattle.refine.specs.Starts.{messageFor, starts}
+use Rattle.refine.specs.State.{moved}
+use Rattle.refine.specs.Transitions.{Follows, row-size}
+
+-- The least number that passes, by tests that are the same below a bound.
+least-same : (q r : ℕ → Bool) (n : ℕ) → ((k : ℕ) → k < n → q k ≡ r k) → least q n ≡ least r n
+unfolding least
+least-same q r zero e = refl
+least-same q r (suc n) e = ap₂ (λ (x : Option ℕ) (b : Bool). orElse x (cond b (some n) none)) (least-same q r n (λ k l. e k (omega arith))) (e n (omega arith))
+
+-- A slot's row holds the slot's locks; a closed slot has none.
+slot-holds : (text tables : List ℕ) (p : Program) (row : List ℕ) (z : Slot (service p)) → SlotRep text tables p row z → Holds p row (heldBy (service p) z)
+slot-holds text tables p row closed e = subst (λ (r : List ℕ). Holds p r []) (sym e) (blank-holds p)
+slot-holds text tables p row (opened t) o = o .locks
+
+module _ (text ws values : List ℕ) (p : Program) (slots : ℕ → Slot (service p)) (rep : Rep text ws values p (record { fields = values; slots = slots }))
+    (s : ℕ) (h : s < 8) (t : Transaction (service p)) (open′ : OpenRep text (tablesOf ws) p (rowOf ws s) t) where
+  abbrev w : World (service p)
+  w = record { fields = values; slots = slots }
+
+  abbrev tables : List ℕ
+  tables = tablesOf ws
+
+  abbrev row : List ℕ
+  row = rowOf ws s
+
+  size : length row ≡ 2264
+  size = row-size text ws values p slots rep s h
+
+  -- ---- a send whose target and method exist
+
+  module _ (c k a : ℕ) (l : c < classCount tables) (has : k < memberCount tables c 1) (kind n : ℕ) (x : Target) (aims : Aims tables c kind n x) where
+    abbrev q : Wanted
+    q = wanted tables kind n c k a
+
+    abbrev m : Message
+    m = messageFor p x c k a
+
+    -- The slots in the way are the model's.
+    way-same : least (inTheWay text ws s q) 8 ≡ least (Told.inTheWay (service p) w s m) 8
+    unfolding inTheWay
+    way-same = least-same (inTheWay text ws s q) (Told.inTheWay (service p) w s m) 8 (λ u b.
+        ap (λ (y : Bool). not (eqb u s) && y)
+        (row-clash text tables p (rep .fits) c k a l has (rowOf ws u) (heldBy (service p) (slots u))
+        (slot-holds text tables p (rowOf ws u) (slots u) (rep .slots u b)) kind n x aims))
+
+    -- The row with its locks and the message's start.
+    grants : Follows text p (grantedOr text ws values s q none) (granted (service p) w s t m none)
+    grants =
+        let took = took-locks text tables p (rep .fits) c k a l has row size (t .locks) (open′ .locks) kind n x aims in
+        let row₁ = locked text tables q row in
+        let start = starts text tables p (rep .fits) c k a l has kind n x aims row₁ (took .long) in
+        let row₂ = begunRow text tables q row₁ in
+        let locks = locksFor p x (m .method) ++ t .locks in (
+          refl,
+          moved text ws values p slots rep s h row₂ values (start .long) refl (opened (record { locks = locks; undo = t .undo; running = some (Model.begun p m) }))
+              (record {
+                undo = λ j.
+                    note-same row₁ row₂ (λ i g e. start .tail i (omega arith) e) j
+                    ∙ note-same row row₁ (λ i g e. took .kept i (λ y z. omega arith)) j ∙ open′ .undo j;
+                locks = holds-alike text tables p (rep .fits) row₁ row₂ locks (λ i g e. start .tail i g (omega arith)) (took .holds);
+                now = (start .phase, start .run, start .runs);
+              }),
+        )
+
+    grants-or : (u : Option ℕ) → Follows text p (grantedOr text ws values s q u) (granted (service p) w s t m u)
+    grants-or none = grants
+    grants-or (some u) = (refl, rep)
+
+    sends : Follows text p (grantedOr text ws values s q (least (inTheWay text ws s q) 8)) (sent (service p) w s t (some m))
+    sends = subst (λ (u : Option ℕ). Follows text p (grantedOr text ws values s q u) (sent (service p) w s t (some m))) (sym way-same)
+        (grants-or (least (Told.inTheWay (service p) w s m) 8))
+
+  -- ---- a send to a target that exists
+
+  sends-to : (c k a : ℕ) → c < classCount tables → (kind n : ℕ) (x : Target) → Aims tables c kind n x
+      → Follows text p (sentTo text ws values s kind n c k a) (sent (service p) w s t (methodAt p x c k a))
+  unfolding sentTo
+  sends-to c k a l kind n x aims = go (leb (memberCount tables c 1) k) refl
+    where
+      names : length (methodNames (p .library) c) ≡ memberCount tables c 1
+      names = length-map (classAt (p .library) c .methods) (λ z. z .name) ∙ method-total text tables p (rep .fits) c l
+
+      known : leb (classCount tables) c ≡ false
+      known = lt-leb (classCount tables) c l
+
+      go : (b : Bool) → leb (memberCount tables c 1) k ≡ b → Follows text p (sentTo text ws values s kind n c k a) (sent (service p) w s t (methodAt p x c k a))
+      go true e =
+          let f : ltb k (length (methodNames (p .library) c)) ≡ false = le-ltb k (length (methodNames (p .library) c))
+          (omega (arith, leb-true (memberCount tables c 1) k e, names)) in
+          rw (known, e, f) (refl, rep)
+      go false e =
+          let has = leb-false (memberCount tables c 1) k e in
+          let f : ltb k (length (methodNames (p .library) c)) ≡ true = lt-ltb k (length (methodNames (p .library) c)) (omega (arith, names)) in
+          rw (known, e, f) (sends c k a l has kind n x aims)
+
+  -- A send, whatever it names.
+  pub sends-by : (q : Request) → Follows text p (sentBy text ws values s q) (sent (service p) w s t (find p q))
+  sends-by (to (object o) k a) =
+      subst (λ (i : ℕ). Follows text p (sentBy text ws values s (to (object o) k a))
+      (sent (service p) w s t (cond (ltb o i) (methodAt p (object o) (Model.classOf p o) k a) none)))
+      (sym (object-total text tables p (rep .fits))) (go (ltb o (objectCount tables)) refl)
+    where
+      go : (b : Bool) → ltb o (objectCount tables) ≡ b
+          → Follows text p (cond b (sentTo text ws values s 0 o (objectWord tables o 1) k a) (refused ws values 36))
+          (sent (service p) w s t (cond b (methodAt p (object o) (Model.classOf p o) k a) none))
+      go true e =
+          let l = ltb-true o (objectCount tables) e in
+          subst (λ (c : ℕ). Follows text p (sentTo text ws values s 0 o (objectWord tables o 1) k a) (sent (service p) w s t (methodAt p (object o) c k a)))
+          (sym (class-is text tables p (rep .fits) o l)) (sends-to (objectWord tables o 1) k a (rep .fits .known o l) 0 o (object o) (one o l refl))
+      go false e = (refl, rep)
+  sends-by (to (class c) k a) =
+      subst (λ (i : ℕ). Follows text p (sentBy text ws values s (to (class c) k a)) (sent (service p) w s t (cond (ltb c i) (methodAt p (class c) c k a) none)))
+      (sym (class-total text tables p (rep .fits))) (go (ltb c (classCount tables)) refl)
+    where
+      go : (b : Bool) → ltb c (classCount tables) ≡ b
+          → Follows text p (cond b (sentTo text ws values s 1 c c k a) (refused ws values 36)) (sent (service p) w s t (cond b (methodAt p (class c) c k a) none))
+      go true e = sends-to c k a (ltb-true c (classCount tables) e) 1 c (class c) each
+      go false e = (refl, rep)
+  sends-by (to (domain c) k a) =
+      subst (λ (i : ℕ). Follows text p (sentBy text ws values s (to (domain c) k a)) (sent (service p) w s t (cond (ltb c i) (methodAt p (domain c) c k a) none)))
+      (sym (class-total text tables p (rep .fits))) (go (ltb c (classCount tables)) refl)
+    where
+      go : (b : Bool) → ltb c (classCount tables) ≡ b
+          → Follows text p (cond b (sentTo text ws values s 2 c c k a) (refused ws values 36)) (sent (service p) w s t (cond b (methodAt p (domain c) c k a) none))
+      go true e = sends-to c k a (ltb-true c (classCount tables) e) 2 c (domain c) whole
+      go false e = (refl, rep)

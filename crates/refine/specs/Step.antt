@@ -1,0 +1,180 @@
+-- One step: on a row whose message runs, what the words decide and carry out is what the model's turn comes to.
+use Prim.Native.Nat.{ℕ, suc, _+_, _-_, _≤_, _<_}
+use native.Mathlib.Omega.{arith}
+use mathlib.Core.Path.{_≡_, refl, ap, ap₂, _∙_}
+use mathlib.Core.Logic.{_≢_}
+use mathlib.Core.Bool.{Bool, true, false, cond, _||_}
+use mathlib.Core.Option.{some}
+use mathlib.Core.List.{List, [], _∷_}
+use lib.ListN.{length, getD}
+use lib.Dec.{eqb, leb, ltb}
+use borrow.Author.Tests.{le-ltb, ltb-true, ltb-false, leb-true, leb-false, eqb-true, eqb-false, ne-eqb}
+use Rattle.model.specs.Word.{Name}
+use Rattle.model.specs.Library.{Library}
+use Rattle.model.specs.Vector.{Program}
+use Rattle.model.specs.Message.{idle, look, Activation, Run, Outcome, ends, onward, plusReply, bodyEnds, limited, turn}
+use Rattle.model.specs.Message as Model
+use Rattle.words.specs.View.{objectCount}
+use Rattle.state.specs.Row.{Turn, misfit, stop, back, answer, act, top, carried}
+use Rattle.state.specs.Turn.{objectFrom, nextTurn, lineTurn, endTurn, activationTurn, decided}
+use Rattle.refine.specs.Rep.{Fits, Running, messageOf, activationOf, stackOf, objectsFrom, runOf}
+use Rattle.refine.specs.Objects.{objects-past, next-some, next-none}
+use Rattle.refine.specs.Runs.{between-none}
+use Rattle.refine.specs.Outcomes.{Comes, by, answers, halts, early-on, late-on, turn-is, turn-on}
+use Rattle.refine.specs.Going.{Matches, back-goes}
+use Rattle.refine.specs.Visits.{next-goes}
+use Rattle.refine.specs.Statements.{goes-comes}
+
+module _ (text tables : List ℕ) (p : Program) (fits : Fits text tables p) (row values : List ℕ) (size : length row ≡ 2264) (runs : Running tables p row)
+    (long : length values ≡ getD tables 3 0) (few : length values ≤ 2048) where
+  abbrev r : Run
+  r = runOf text p row
+
+  abbrev o : ℕ
+  o = getD row 4 0
+
+  abbrev later : List ℕ
+  later = objectsFrom p (messageOf text row .target) (suc o)
+
+  abbrev Now : Turn → Outcome → Type 0
+  Now = Comes text tables p row values
+
+  module _ (here : o < objectCount tables) (k : ℕ) (deep : getD row 1 0 ≡ suc k) where
+    abbrev l : Library
+    l = p .library
+
+    abbrev a : Activation
+    a = activationOf l row k
+
+    abbrev below : List Activation
+    below = stackOf l row k
+
+    abbrev from : ℕ
+    from = act row k 0
+
+    abbrev end : ℕ
+    end = act row k 1
+
+    abbrev fields : Name → ℕ
+    fields = look p values o
+
+    -- ---- the end of a body
+
+    module _ (over : end ≤ from) where
+      turn-over : turn p r values ≡ limited (bodyEnds p r later a below)
+      unfolding activationOf
+      turn-over = turn-on text tables p fits row runs here k deep values [] (between-none l from end over)
+
+      -- The object has ended: the next one, or the answer.
+      abbrev sum : ℕ
+      sum = plusReply (getD row 3 0) (act row k 4)
+
+      abbrev coming : ℕ
+      coming = objectFrom tables (getD row 5 0) (getD row 6 0) (suc o)
+
+      abbrev endBy : Bool → Turn
+      endBy b = cond b (nextTurn text tables (getD row 7 0) coming sum) (answer sum)
+
+      end-is : (b : Bool) → ltb coming (objectCount tables) ≡ b → endTurn text tables row (act row k 4) ≡ endBy b
+      unfolding endTurn
+      end-is b f =
+          let e : o + 1 ≡ suc o = omega arith in
+          ap (λ (i : ℕ). let q = objectFrom tables (getD row 5 0) (getD row 6 0) i in
+          cond (ltb q (objectCount tables)) (nextTurn text tables (getD row 7 0) q sum) (answer sum)) e
+          ∙ ap endBy f
+
+      object-ends : below ≡ [] → Now (endTurn text tables row (act row k 4)) (turn p r values)
+      unfolding carried runOf activationOf
+      object-ends alone = go (ltb coming (objectCount tables)) refl
+        where
+          ended : (os : List ℕ) → later ≡ os → turn p r values ≡ limited (Model.objectEnds p r os (act row k 4))
+          ended os e = turn-over ∙ ap₂ (λ (xs : List ℕ) (ys : List Activation). limited (bodyEnds p r xs a ys)) e alone
+
+          next-is : coming < objectCount tables
+              → (Model.inTarget p (messageOf text row .target) coming ≡ true) × (later ≡ coming ∷ objectsFrom p (messageOf text row .target) (suc coming))
+          next-is = next-some text tables p fits (getD row 5 0) (getD row 6 0) (suc o) (runs .domain)
+
+          go : (b : Bool) → ltb coming (objectCount tables) ≡ b → Now (endTurn text tables row (act row k 4)) (turn p r values)
+          go true e =
+              let h = ltb-true coming (objectCount tables) e in
+              let os = coming ∷ objectsFrom p (messageOf text row .target) (suc coming) in
+              by (end-is true e) (ended os (next-is h .1)) (record {
+                matches = next-goes text tables p fits row size (runs .domain) coming sum h (next-is h .0) values;
+              })
+          go false e =
+              by (end-is false e)
+              (ended [] (next-none text tables p fits (getD row 5 0) (getD row 6 0) (suc o) (runs .domain) (ltb-false coming (objectCount tables) e)))
+              (answers sum)
+
+      -- A callee's body has ended: its reply goes back.
+      body-ends : (j : ℕ) → k ≡ suc j → (b : Bool) → leb 1024 (getD row 2 0 + 1) ≡ b → Now (cond b stop (back (act row k 4))) (turn p r values)
+      unfolding carried activationOf stackOf
+      body-ends j e b f = go b f
+        where
+          to : List Activation
+          to = Model.withGot (activationOf l row j) (act row k 4) ∷ stackOf l row j
+
+          ended : turn p r values ≡ limited (onward r to idle)
+          ended = turn-over ∙ ap (λ (n : ℕ). limited (bodyEnds p r later a (stackOf l row n))) e
+
+          go : (b : Bool) → leb 1024 (getD row 2 0 + 1) ≡ b → Now (cond b stop (back (act row k 4))) (turn p r values)
+          go true f = by refl (ended ∙ late-on text p row to idle (omega (arith, leb-true 1024 (getD row 2 0 + 1) f))) halts
+          go false f =
+              let h = leb-false 1024 (getD row 2 0 + 1) f in
+              by refl (ended ∙ early-on text p row to idle (omega arith))
+              (record { matches = back-goes text tables p row values size runs j (act row k 4) (deep ∙ ap suc e) (omega arith) })
+
+      ends-comes : (b : Bool) → eqb k 0 ≡ b
+          → Now (cond b (endTurn text tables row (act row k 4)) (cond (leb 1024 (getD row 2 0 + 1)) stop (back (act row k 4)))) (turn p r values)
+      unfolding stackOf
+      ends-comes true e = object-ends (ap (stackOf l row) (eqb-true k 0 e))
+      ends-comes false e =
+          let ne : k ≢ 0 = eqb-false k 0 e in
+          body-ends (k - 1) (omega arith) (leb 1024 (getD row 2 0 + 1)) refl
+
+    -- ---- the activation
+
+    active-comes : Now (activationTurn text tables row values) (turn p r values)
+    unfolding activationTurn
+    active-comes = by (ap byTop top-is) refl (go (leb end from) refl)
+      where
+        top-is : top row ≡ k
+        top-is = omega arith
+
+        byTop : ℕ → Turn
+        byTop j =
+            cond (leb (act row j 1) (act row j 0))
+            (cond (eqb j 0) (endTurn text tables row (act row j 4)) (cond (leb 1024 (getD row 2 0 + 1)) stop (back (act row j 4))))
+            (cond (leb 1024 (getD row 2 0 + 1)) stop (lineTurn text tables values (getD row 4 0) (getD row 1 0) (act row j 0) (act row j 2) (act row j 3)))
+
+        go : (b : Bool) → leb end from ≡ b
+            → Now (cond b (cond (eqb k 0) (endTurn text tables row (act row k 4)) (cond (leb 1024 (getD row 2 0 + 1)) stop (back (act row k 4))))
+            (cond (leb 1024 (getD row 2 0 + 1)) stop (lineTurn text tables values o (getD row 1 0) from (act row k 2) (act row k 3)))) (turn p r values)
+        go true e = ends-comes (leb-true end from e) (eqb k 0) refl
+        go false e = goes-comes text tables p fits row values size runs long few here k deep (leb-false end from e) (leb 1024 (getD row 2 0 + 1)) refl
+
+  -- "With no objects the first step answers 0."
+  no-object : objectCount tables ≤ o → turn p r values ≡ ends (getD row 3 0) idle
+  unfolding runOf
+  no-object h = turn-is text p row values [] (r .activations) (objects-past text tables p fits (messageOf text row .target) o h) refl
+
+  decided-comes : Now (decided text tables row values) (turn p r values)
+  unfolding decided
+  decided-comes = go (leb (objectCount tables) o) refl
+    where
+      on : Turn
+      on = cond (eqb (getD row 1 0) 0 || ltb 8 (getD row 1 0)) misfit (activationTurn text tables row values)
+
+      go : (b : Bool) → leb (objectCount tables) o ≡ b → Now (cond b (answer (getD row 3 0)) on) (turn p r values)
+      go true e = by refl (no-object (leb-true (objectCount tables) o e)) (answers (getD row 3 0))
+      go false e =
+          let here = leb-false (objectCount tables) o e in
+          let some = runs .active here in
+          let t₁ : eqb (getD row 1 0) 0 ≡ false = ne-eqb (getD row 1 0) 0 (omega arith) in
+          let t₂ : ltb 8 (getD row 1 0) ≡ false = le-ltb 8 (getD row 1 0) (runs .depth) in
+          let active : on ≡ activationTurn text tables row values = rw (t₁, t₂) refl in
+          by active refl (active-comes here (getD row 1 0 - 1) (omega arith))
+
+  -- The step.
+  pub step-matches : Matches text tables p row values (carried row values (decided text tables row values)) (turn p (runOf text p row) values)
+  step-matches = decided-comes .matches

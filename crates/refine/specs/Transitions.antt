@@ -1,0 +1,162 @@
+-- What each call does to an open slot, over the words and in the model: begin, step, commit and abort.
+use Prim.Native.Nat.{ℕ, suc, _+_, _/_, _%_, _<_}
+use native.Mathlib.Omega.{arith}
+use mathlib.Core.Path.{_≡_, refl, sym, ap, subst, _∙_, fun-ext}
+use mathlib.Core.Bool.{Bool, true, false, cond}
+use mathlib.Core.Option.{Option, none, some}
+use mathlib.Core.List.{List, [], _∷_}
+use lib.ListN.{length, getD, set, length-set, length-replicate}
+use lib.Dec.{ltb}
+use Rattle.model.specs.Vector.{Program}
+use Rattle.model.specs.Message.{Effect, idle, store, Run, Outcome, goes, ends, stops, turn}
+use Rattle.model.specs.Message as Model
+use Rattle.model.specs.Undo.{Undo, noted, putBack}
+use Rattle.model.specs.Service.{Answer, Slot, closed, opened, Transaction, World, withSlot, newTransaction, undone, after, stepped}
+use Rattle.model.specs.Service as Told
+use Rattle.model.specs.Machine.{service}
+use Rattle.model.specs.Base.{put}
+use Rattle.words.specs.View.{bit}
+use Rattle.words.specs.Bits.{bit-zero}
+use Rattle.state.specs.Row.{Left, noteIf, noteAt, blank, carried}
+use Rattle.state.specs.Turn.{decided}
+use Rattle.state.specs.Calls.{Answered, done, halt, After, tablesOf, rowOf, withRow, toldBy, laid, undoneAt}
+use Rattle.refine.specs.Rep.{runOf, Running, Holds, OpenRep, Rep, told}
+use Rattle.refine.specs.Runs.{note-same}
+use Rattle.refine.specs.Stores.{else-word, new-word}
+use Rattle.refine.specs.Going.{Matches}
+use Rattle.refine.specs.Step.{step-matches}
+use Rattle.refine.specs.Locks.{blank-word, blank-holds, holds-alike}
+use Rattle.refine.specs.State.{row-length, Fit, fit-is, moved}
+
+-- What a call leaves follows the model: its answer is the model's, and the words represent the world after.
+abbrev pub Follows : List ℕ → (p : Program) → After → Answer × World (service p) → Type 0
+Follows text p x y = (told (x .answered) ≡ y .0) × Rep text (x .words) (x .values) p (y .1)
+
+-- ---- notes
+
+back-length : (u : Undo) (values : List ℕ) → length (putBack u values) ≡ length values
+unfolding putBack
+back-length u [] = refl
+back-length u (v ∷ vs) = ap suc (back-length (λ k. u (suc k)) vs)
+
+act-length : (e : Effect) (values : List ℕ) → length (Model.act e values) ≡ length values
+act-length idle values = refl
+act-length (store k v) values = length-set values k v
+
+-- A row of zeros has no notes.
+zero-notes : (row : List ℕ) → ((i : ℕ) → getD row i 0 ≡ 0) → (k : ℕ) → noteAt row k ≡ none
+unfolding noteAt
+zero-notes row zeros k =
+    ap (λ (b : Bool). cond (ltb k 2048) (noteIf b (getD row (216 + k) 0)) none)
+    (ap (λ (w : ℕ). bit w (k % 32)) (zeros (152 + k / 32)) ∙ bit-zero (k % 32)) ∙ go (ltb k 2048)
+  where
+    go : (b : Bool) → _≡_ {A = Option ℕ} (cond b none none) none
+    go true = refl
+    go false = refl
+
+blank-long : length blank ≡ 2264
+blank-long = length-replicate {A = ℕ} 2264 0
+
+module _ (text ws values : List ℕ) (p : Program) (slots : ℕ → Slot (service p)) (rep : Rep text ws values p (record { fields = values; slots = slots }))
+    (s : ℕ) (h : s < 8) where
+  abbrev w : World (service p)
+  w = record { fields = values; slots = slots }
+
+  abbrev row : List ℕ
+  row = rowOf ws s
+
+  fit : Fit ws values
+  fit = fit-is text ws values (rep .fit)
+
+  pub row-size : length row ≡ 2264
+  row-size = row-length ws (fit .long) s h
+
+  -- A row alike but for its phase.
+  phased : (v i : ℕ) → (i ≡ 0 → ⊥) → getD (set row 0 v) i 0 ≡ getD row i 0
+  phased v i ne = else-word row 0 v i ne
+
+  -- "begin opens it"
+  pub begins : row ≡ blank
+      → Follows text p (record { answered = done; words = withRow ws s (set row 0 1); values = values })
+      (Told.done, withSlot (service p) w s (opened (newTransaction (service p))))
+  begins e = (
+    refl,
+    moved text ws values p slots rep s h (set row 0 1) values (length-set row 0 1 ∙ row-size) refl (opened (newTransaction (service p)))
+        (record {
+          undo = λ k. note-same row (set row 0 1) (λ i g l. phased 1 i (omega arith)) k ∙ zero-notes row zeros k;
+          locks = holds-alike text (tablesOf ws) p (rep .fits) row (set row 0 1) [] (λ i g l. phased 1 i (omega arith))
+              (subst (λ (r : List ℕ). Holds p r []) (sym e) (blank-holds p));
+          now = new-word row 0 1 (omega (arith, row-size));
+        }),
+  )
+    where
+      zeros : (i : ℕ) → getD row i 0 ≡ 0
+      zeros i = ap (λ (r : List ℕ). getD r i 0) e ∙ blank-word i
+
+  -- "Commit frees the slot and leaves the fields."
+  pub commits : Follows text p (record { answered = done; words = withRow ws s blank; values = values }) (Told.done, withSlot (service p) w s closed)
+  commits = (refl, moved text ws values p slots rep s h blank values blank-long refl closed refl)
+
+  module _ (t : Transaction (service p)) (open′ : OpenRep text (tablesOf ws) p row t) where
+    notes-are : noteAt row ≡ t .undo
+    notes-are = fun-ext (open′ .undo)
+
+    -- "Abort puts back .. and frees the slot."
+    undoes : (said : Answered) (a : Answer) → told said ≡ a
+        → Follows text p (record { answered = said; words = withRow ws s blank; values = putBack (noteAt row) values }) (a, undone (service p) w s t)
+    undoes said a e = (
+      e,
+      subst (λ (u : Undo). Rep text (withRow ws s blank) (putBack (noteAt row) values) p
+          (record { fields = putBack u values; slots = put slots s closed })) notes-are
+          (moved text ws values p slots rep s h blank (putBack (noteAt row) values) blank-long (back-length (noteAt row) values) closed refl),
+    )
+
+    pub aborts : Follows text p (undoneAt ws values s) (Told.done, undone (service p) w s t)
+    aborts = undoes done Told.done refl
+
+    -- ---- a step
+
+    -- The slot after a step's effect.
+    steps-to : (row′ values′ : List ℕ) (e : Effect) (r : Option Run) → length row′ ≡ 2264 → values′ ≡ Model.act e values
+        → OpenRep text (tablesOf ws) p row′ (record { locks = t .locks; undo = noted (t .undo) e values; running = r })
+        → Rep text (withRow ws s row′) values′ p (after (service p) w s t e r)
+    steps-to row′ values′ e r size f o =
+        subst (λ (fs : List ℕ). Rep text (withRow ws s row′) values′ p
+        (record { fields = fs; slots = put slots s (opened (record { locks = t .locks; undo = noted (t .undo) e values; running = r })) })) f
+        (moved text ws values p slots rep s h row′ values′ size (ap length f ∙ act-length e values)
+        (opened (record { locks = t .locks; undo = noted (t .undo) e values; running = r })) o)
+
+    outcome : getD row 0 0 ≡ 2 → (x : Left) (y : Outcome) → Matches text (tablesOf ws) p row values x y → Follows text p (laid ws s x) (stepped (service p) w s t y)
+    outcome two x (goes r e) m = (
+      ap (λ z. told (toldBy z)) (m .said),
+      steps-to (x .row) (x .values) e (some r) (m .size) (m .fields)
+          (record {
+            undo = λ k. m .notes k ∙ ap (λ (u : Undo). noted u e values k) notes-are;
+            locks = holds-alike text (tablesOf ws) p (rep .fits) row (x .row) (t .locks) (m .locks) (open′ .locks);
+            now = (m .phase ∙ two, m .run, m .runs);
+          }),
+    )
+    outcome two x (ends v e) m =
+        let e′ = m .effect in
+        let keep : (i : ℕ) → (i ≡ 0 → ⊥) → getD (x .row) i 0 ≡ getD row i 0 = λ i ne. ap (λ (r : List ℕ). getD r i 0) (m .left) ∙ phased 1 i ne in (
+          ap (λ z. told (toldBy z)) (m .said),
+          steps-to (x .row) (x .values) e none (ap length (m .left) ∙ length-set row 0 1 ∙ row-size) (m .fields ∙ ap (λ (d : Effect). Model.act d values) (sym e′))
+              (record {
+                undo = λ k. note-same row (x .row) (λ i g l. keep i (omega arith)) k ∙ open′ .undo k ∙ ap (λ (d : Effect). noted (t .undo) d values k) (sym e′);
+                locks = holds-alike text (tablesOf ws) p (rep .fits) row (x .row) (t .locks) (λ i g l. keep i (omega arith)) (open′ .locks);
+                now = ap (λ (r : List ℕ). getD r 0 0) (m .left) ∙ new-word row 0 1 (omega (arith, row-size));
+              }),
+        )
+    outcome two x stops m =
+        subst (λ (z : Left). Follows text p (laid ws s z) (Told.stopped, undone (service p) w s t))
+        (sym (λ i. record { said = m .said i; row = m .left i; values = m .fields i }))
+        (undoes halt Told.stopped refl)
+
+    -- "A step answers "going" or the message's answer."
+    pub steps : (r : Run) → getD row 0 0 ≡ 2 → r ≡ runOf text p row → Running (tablesOf ws) p row
+        → Follows text p (laid ws s (carried row values (decided text (tablesOf ws) row values))) (stepped (service p) w s t (turn p r values))
+    steps r two e runs =
+        subst (λ (z : Run). Follows text p (laid ws s (carried row values (decided text (tablesOf ws) row values)))
+        (stepped (service p) w s t (turn p z values))) (sym e)
+        (outcome two (carried row values (decided text (tablesOf ws) row values)) (turn p (runOf text p row) values)
+        (step-matches text (tablesOf ws) p (rep .fits) row values row-size runs (fit .count) (fit .few)))

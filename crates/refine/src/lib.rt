@@ -1,0 +1,1 @@
+// The words against the model: see specs/.

@@ -1,0 +1,27 @@
+-- The word's place in the row is the definition's.
+use Rattle.state.specs.Row.{withAct}
+use borrow.Author.Needs.{needs}
+use Rattle.rows.proofs.put_act.Statement.{statement}
+use Rattle.rows.proofs.put_act.Tie as tie
+
+mul-put : tie.Need-mul-put
+mul-put c = search needs
+
+add-put : tie.Need-add-put
+add-put c = search needs
+
+add-put-2 : tie.Need-add-put-2
+add-put-2 c = search needs
+
+put-requires : tie.Need-put-requires
+put-requires c κs = search needs
+
+same-length : tie.Need-same-length
+same-length c = search needs
+
+returns : tie.Need-returns
+unfolding withAct
+returns c = cc
+
+pub put-act-spec : {M : Type 1} → statement M
+put-act-spec = tie.close (tie.spec mul-put add-put add-put-2 put-requires same-length returns)

@@ -1,0 +1,120 @@
+-- A list that a loop makes of another from the front: what is done so far, and what is left.
+use Prim.Native.Nat.{ℕ, zero, suc, _+_, _*_, _/_, _%_, _^_, _≤_, _<_}
+use native.Mathlib.Nat.{not-suc-le-zero, le-of-suc-le-suc, one-mul}
+use native.Mathlib.Numerals.{add-one}
+use native.Mathlib.Omega.{arith}
+use mathlib.Core.Path.{_≡_, refl, sym, ap, _∙_}
+use mathlib.Core.List.{List, [], _∷_, _++_}
+use mathlib.Core.Option.{Option, none, some}
+use lib.ListN.{length, getD, take, drop, set, replicate, length-set, length-replicate}
+use lib.Pow.{shl-exact}
+use lib.Bits.{bitOr}
+use borrow.Author.Tests.{lt-ltb, le-ltb, eq-eqb, ne-eqb}
+use Rattle.model.specs.Undo.{Undo, restored, putBack}
+use Rattle.words.specs.View.{bit}
+use Rattle.state.specs.Row.{noteAt, notedRow}
+
+-- The first i elements are those of `made`, the others those of `old`.
+abbrev pub over : ℕ → List ℕ → List ℕ → List ℕ
+over i made old = take i made ++ drop i old
+
+suc-injective : {m n : ℕ} → suc m ≡ suc n → m ≡ n
+suc-injective e = omega arith
+
+put-next : (i : ℕ) (made old : List ℕ) → length made ≡ length old → i < length old → set (over i made old) i (getD made i 0) ≡ over (suc i) made old
+put-next i made [] e h = absurd (not-suc-le-zero h)
+put-next i [] (o ∷ os) e h = absurd (omega arith)
+put-next zero (t ∷ ts) (o ∷ os) e h = refl
+put-next (suc i) (t ∷ ts) (o ∷ os) e h = ap (λ (r : List ℕ). t ∷ r) (put-next i ts os (suc-injective e) (le-of-suc-le-suc h))
+
+keep-next : (i : ℕ) (made old : List ℕ) → length made ≡ length old → i < length old → getD made i 0 ≡ getD old i 0 → over i made old ≡ over (suc i) made old
+keep-next i made [] e h q = absurd (not-suc-le-zero h)
+keep-next i [] (o ∷ os) e h q = absurd (omega arith)
+keep-next zero (t ∷ ts) (o ∷ os) e h q = ap (λ (x : ℕ). x ∷ os) (sym q)
+keep-next (suc i) (t ∷ ts) (o ∷ os) e h q = ap (λ (r : List ℕ). t ∷ r) (keep-next i ts os (suc-injective e) (le-of-suc-le-suc h) q)
+
+pub over-length : (i : ℕ) (made old : List ℕ) → length made ≡ length old → length (over i made old) ≡ length old
+over-length zero made old e = refl
+over-length (suc i) [] [] e = refl
+over-length (suc i) [] (o ∷ os) e = absurd (omega arith)
+over-length (suc i) (t ∷ ts) [] e = absurd (omega arith)
+over-length (suc i) (t ∷ ts) (o ∷ os) e = ap suc (over-length i ts os (suc-injective e))
+
+-- The next element is still the old one.
+pub over-at : (i : ℕ) (made old : List ℕ) → length made ≡ length old → getD (over i made old) i 0 ≡ getD old i 0
+over-at zero made old e = refl
+over-at (suc i) [] [] e = refl
+over-at (suc i) [] (o ∷ os) e = absurd (omega arith)
+over-at (suc i) (t ∷ ts) [] e = absurd (omega arith)
+over-at (suc i) (t ∷ ts) (o ∷ os) e = over-at i ts os (suc-injective e)
+
+-- At the end all is made.
+pub over-all : (made old : List ℕ) → length made ≡ length old → over (length old) made old ≡ made
+over-all [] [] e = refl
+over-all [] (o ∷ os) e = absurd (omega arith)
+over-all (t ∷ ts) [] e = absurd (omega arith)
+over-all (t ∷ ts) (o ∷ os) e = ap (λ (r : List ℕ). t ∷ r) (over-all ts os (suc-injective e))
+
+module _ (made old : List ℕ) (e : length made ≡ length old) (now : List ℕ) (i : ℕ) (h : i < length old) (q : now ≡ over i made old) where
+  -- A turn that stores the element.
+  pub over-put : (v : ℕ) → v ≡ getD made i 0 → set now i v ≡ over (i + 1) made old
+  over-put v w = ap (λ (l : List ℕ). set l i v) q ∙ ap (λ (x : ℕ). set (over i made old) i x) w ∙ put-next i made old e h ∙ ap (λ (k : ℕ). over k made old) (sym (add-one i))
+
+  -- A turn that leaves it as it is.
+  pub over-keep : getD made i 0 ≡ getD old i 0 → now ≡ over (i + 1) made old
+  over-keep w = q ∙ keep-next i made old e h w ∙ ap (λ (k : ℕ). over k made old) (sym (add-one i))
+
+-- ---- what is put back
+
+pub put-back-length : (u : Undo) (l : List ℕ) → length (putBack u l) ≡ length l
+unfolding putBack
+put-back-length u [] = refl
+put-back-length u (v ∷ vs) = ap suc (put-back-length (λ k. u (suc k)) vs)
+
+pub put-back-at : (u : Undo) (l : List ℕ) (k : ℕ) → k < length l → getD (putBack u l) k 0 ≡ restored (u k) (getD l k 0)
+unfolding putBack
+put-back-at u [] k h = absurd (not-suc-le-zero h)
+put-back-at u (v ∷ vs) zero h = refl
+put-back-at u (v ∷ vs) (suc k) h = put-back-at (λ j. u (suc j)) vs k (le-of-suc-le-suc h)
+
+-- ---- what a note says
+
+module _ (row : List ℕ) (k v : ℕ) where
+  abbrev pub marked : ℕ
+  marked = getD row (152 + k / 32) 0 / 2 ^ (k % 32) % 2
+
+  pub note-kept : k < 2048 → marked ≡ 1 → getD row (216 + k) 0 ≡ restored (noteAt row k) v
+  unfolding noteAt bit
+  note-kept h e = rw (lt-ltb k 2048 h, eq-eqb marked 1 e)
+
+  pub note-none : k < 2048 → (marked ≡ 1 → ⊥) → v ≡ restored (noteAt row k) v
+  unfolding noteAt bit
+  note-none h e = rw (lt-ltb k 2048 h, ne-eqb marked 1 e)
+
+  pub note-past : 2048 ≤ k → v ≡ restored (noteAt row k) v
+  unfolding noteAt
+  note-past h = rw (le-ltb k 2048 h)
+
+-- ---- a note made
+
+module _ (row : List ℕ) (k v : ℕ) where
+  pub noted-past : 2048 ≤ k → row ≡ notedRow row k v
+  unfolding notedRow
+  noted-past h = rw (le-ltb k 2048 h)
+
+  pub noted-kept : k < 2048 → marked row k v ≡ 1 → row ≡ notedRow row k v
+  unfolding notedRow bit
+  noted-kept h e = rw (lt-ltb k 2048 h, eq-eqb (marked row k v) 1 e)
+
+  pub noted-new : k < 2048 → (marked row k v ≡ 1 → ⊥)
+      → set (set row (152 + k / 32) (bitOr (getD row (152 + k / 32) 0) (2 ^ (k % 32)))) (216 + k) v ≡ notedRow row k v
+  unfolding notedRow bit
+  noted-new h e = rw (lt-ltb k 2048 h, ne-eqb (marked row k v) 1 e)
+
+pub one-shifted : (k : ℕ) → k < 32 → (1 * 2 ^ k) % 2 ^ 32 ≡ 2 ^ k
+one-shifted k h = shl-exact {a = 1} 1 k 32 (omega arith) (omega arith) ∙ one-mul (2 ^ k)
+
+pub zeros-at : (n k : ℕ) → _≡_ {A = ℕ} (getD (replicate n 0) k 0) 0
+zeros-at zero k = refl
+zeros-at (suc n) zero = refl
+zeros-at (suc n) (suc k) = zeros-at n k

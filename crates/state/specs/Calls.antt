@@ -1,0 +1,155 @@
+-- The five calls over the lent text, values and words. The state is 26,184 words: the tables (8,072), then the eight slots'
+-- rows (2,264 each); what lies behind is not the machine's.
+use Prim.Native.Nat.{ℕ, _+_, _*_, _%_}
+use mathlib.Core.Bool.{Bool, not, cond, _&&_, _||_}
+use mathlib.Core.Option.{Option, none, some}
+use mathlib.Core.List.{List}
+use lib.ListN.{length, getD, take, drop, set}
+use lib.Seq.{sets}
+use lib.Dec.{eqb, leb, ltb}
+use Rattle.model.specs.Base.{least}
+use Rattle.model.specs.Undo.{putBack}
+use Rattle.model.specs.Service.{Call, begin, send, step, commit, abort}
+use Rattle.model.specs.Machine.{object, class, domain, Request, to}
+use Rattle.words.specs.View.{objectWord, classWord, classCount, objectCount, memberCount}
+use Rattle.state.specs.Row.{Said, unfit, going, halted, answered, Left, noteAt, blank, carried}
+use Rattle.state.specs.Turn.{decided}
+use Rattle.state.specs.Request.{Wanted, rowMeets, locked, begunRow}
+
+-- The mark that a start leaves.
+abbrev pub mark : ℕ
+mark = 1128352845
+
+abbrev pub stateWords : ℕ
+stateWords = 26184
+
+abbrev pub tablesOf : List ℕ → List ℕ
+tablesOf ws = take 8072 ws
+
+abbrev pub rowStart : ℕ → ℕ
+rowStart s = 8072 + s * 2264
+
+unfoldable pub rowOf : List ℕ → ℕ → List ℕ
+rowOf ws s = take 2264 (drop (rowStart s) ws)
+
+-- What a call answers, by 01's numbers: `number` 21 to 36; 40 with the slot; 41.
+pub data Answered : Type 0 where
+  done goes halt : Answered
+  answer : ℕ → Answered
+  number : ℕ → Answered
+  held : ℕ → Answered
+
+-- What a call answers and leaves.
+pub record After : Type 0 where
+  pub answered : Answered
+  pub words : List ℕ
+  pub values : List ℕ
+
+abbrev pub refused : List ℕ → List ℕ → ℕ → After
+refused ws values n = record { answered = number n; words = ws; values = values }
+
+abbrev pub withRow : List ℕ → ℕ → List ℕ → List ℕ
+withRow ws s row = sets ws (rowStart s) row
+
+-- ---- does what is lent fit?
+
+-- 21, then 22, then 24; 0 where it fits.
+unfoldable pub misfitOf : List ℕ → List ℕ → List ℕ → ℕ
+misfitOf text ws values =
+    cond (ltb (length ws) stateWords) 21
+    (cond (not (eqb (getD ws 3 0) (length values)) || ltb 2048 (length values)) 22
+    (cond (eqb (getD ws 5 0) mark && eqb (getD ws 4 0) (length text)) 0 24))
+
+-- ---- send
+
+abbrev pub wanted : List ℕ → ℕ → ℕ → ℕ → ℕ → ℕ → Wanted
+wanted tables kind n c k a =
+    record { kind = kind; number = n; class = c; place = k; name = classWord tables c (72 + k) % 1048576; argument = a }
+
+-- The slots other than s whose locks are in the way.
+unfoldable pub inTheWay : List ℕ → List ℕ → ℕ → Wanted → ℕ → Bool
+unfolding rowOf rowMeets
+inTheWay text ws s q t = not (eqb t s) && rowMeets text (tablesOf ws) q (rowOf ws t)
+
+abbrev pub grantedOr : List ℕ → List ℕ → List ℕ → ℕ → Wanted → Option ℕ → After
+grantedOr text ws values s q (some t) = record { answered = held t; words = ws; values = values }
+grantedOr text ws values s q none =
+    record {
+      answered = done;
+      words = withRow ws s (begunRow text (tablesOf ws) q (locked text (tablesOf ws) q (rowOf ws s)));
+      values = values;
+    }
+
+-- The target's class, where object and class exist, and 36 where the method does not; a class that an object names and
+-- that is not there is 24.
+unfoldable pub sentTo : List ℕ → List ℕ → List ℕ → ℕ → ℕ → ℕ → ℕ → ℕ → ℕ → After
+unfolding memberCount classWord least inTheWay rowOf begunRow locked
+sentTo text ws values s kind n c k a =
+    let tables = tablesOf ws in
+    cond (leb (classCount tables) c) (refused ws values 24)
+    (cond (leb (memberCount tables c 1) k) (refused ws values 36)
+    (let q = wanted tables kind n c k a in grantedOr text ws values s q (least (inTheWay text ws s q) 8)))
+
+abbrev pub sentBy : List ℕ → List ℕ → List ℕ → ℕ → Request → After
+sentBy text ws values s (to (object o) k a) =
+    cond (ltb o (objectCount (tablesOf ws))) (sentTo text ws values s 0 o (objectWord (tablesOf ws) o 1) k a) (refused ws values 36)
+sentBy text ws values s (to (class c) k a) = cond (ltb c (classCount (tablesOf ws))) (sentTo text ws values s 1 c c k a) (refused ws values 36)
+sentBy text ws values s (to (domain c) k a) = cond (ltb c (classCount (tablesOf ws))) (sentTo text ws values s 2 c c k a) (refused ws values 36)
+
+-- ---- step
+
+abbrev pub toldBy : Said → Answered
+toldBy unfit = number 24
+toldBy going = goes
+toldBy halted = halt
+toldBy (answered v) = answer v
+
+abbrev pub laid : List ℕ → ℕ → Left → After
+laid ws s x = record { answered = toldBy (x .said); words = withRow ws s (x .row); values = x .values }
+
+-- ---- the calls
+
+abbrev pub undoneAt : List ℕ → List ℕ → ℕ → After
+undoneAt ws values s = record { answered = done; words = withRow ws s blank; values = putBack (noteAt (rowOf ws s)) values }
+
+-- On a slot below 8, by its phase: closed, open, or with a message running (any other number counts as running).
+abbrev pub onClosed : List ℕ → List ℕ → Call Request → After
+onClosed ws values (begin s) = record { answered = done; words = withRow ws s (set (rowOf ws s) 0 1); values = values }
+onClosed ws values (send s q) = refused ws values 32
+onClosed ws values (step s) = refused ws values 32
+onClosed ws values (commit s) = refused ws values 32
+onClosed ws values (abort s) = refused ws values 32
+
+abbrev pub onIdle : List ℕ → List ℕ → List ℕ → Call Request → After
+onIdle text ws values (begin s) = refused ws values 33
+onIdle text ws values (send s q) = sentBy text ws values s q
+onIdle text ws values (step s) = refused ws values 35
+onIdle text ws values (commit s) = record { answered = done; words = withRow ws s blank; values = values }
+onIdle text ws values (abort s) = undoneAt ws values s
+
+abbrev pub onRunning : List ℕ → List ℕ → List ℕ → Call Request → After
+onRunning text ws values (begin s) = refused ws values 33
+onRunning text ws values (send s q) = refused ws values 34
+onRunning text ws values (step s) = laid ws s (carried (rowOf ws s) values (decided text (tablesOf ws) (rowOf ws s) values))
+onRunning text ws values (commit s) = refused ws values 34
+onRunning text ws values (abort s) = undoneAt ws values s
+
+abbrev pub slotIn : Call Request → ℕ
+slotIn (begin s) = s
+slotIn (send s q) = s
+slotIn (step s) = s
+slotIn (commit s) = s
+slotIn (abort s) = s
+
+abbrev pub byPhase : List ℕ → List ℕ → List ℕ → Call Request → ℕ → After
+byPhase text ws values c phase =
+    cond (eqb phase 0) (onClosed ws values c) (cond (eqb phase 1) (onIdle text ws values c) (onRunning text ws values c))
+
+-- One call on what is lent, whatever that is.
+unfoldable pub called : List ℕ → List ℕ → List ℕ → Call Request → After
+unfolding misfitOf rowOf sentTo carried decided putBack noteAt
+called text ws values c =
+    let misfit = misfitOf text ws values in
+    cond (not (eqb misfit 0)) (refused ws values misfit)
+    (cond (leb 8 (slotIn c)) (refused ws values 31)
+    (byPhase text ws values c (getD (rowOf ws (slotIn c)) 0 0)))

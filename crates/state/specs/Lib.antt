@@ -1,0 +1,4 @@
+pub mod Row
+pub mod Turn
+pub mod Request
+pub mod Calls

@@ -1,0 +1,88 @@
+-- A send over the words: whom it names, which slots' locks are in its way, and what it leaves in its slot's row.
+use Prim.Native.Nat.{ℕ, _+_, _-_, _^_}
+use mathlib.Core.Bool.{Bool, not, cond, _&&_}
+use mathlib.Core.List.{List}
+use lib.ListN.{getD, set}
+use lib.Bits.{bitAnd, bitOr}
+use lib.Dec.{eqb, ltb}
+use Rattle.model.specs.Base.{fold, upto, any}
+use Rattle.model.specs.Library.{memberPlace}
+use Rattle.words.specs.View.{nameOf, objectWord, classWord, classCount, objectCount, memberCount, membersOf, bit}
+use Rattle.state.specs.Row.{objectRow}
+use Rattle.state.specs.Turn.{objectFrom, bodyIn}
+
+-- A target, an object, a class or a domain by its kind 0, 1 or 2 and its number, with the class in which the method is
+-- counted, the method's place there, its name's word, and the send's argument.
+pub record Wanted : Type 0 where
+  pub kind : ℕ
+  pub number : ℕ
+  pub class : ℕ
+  pub place : ℕ
+  pub name : ℕ
+  pub argument : ℕ
+
+-- ---- locks
+
+-- Some method of the mask does not commute with the one whose commuting mask this is.
+unfoldable pub meets : ℕ → ℕ → Bool
+meets held commuting = not (eqb (bitAnd held (4294967295 - commuting)) 0)
+
+-- The place of the method in class d, by its name, and its commuting mask there.
+unfoldable pub placeIn : List ℕ → List ℕ → Wanted → ℕ → ℕ
+unfolding membersOf memberPlace nameOf
+placeIn text tables q d = memberPlace (membersOf text tables d 1) (nameOf text (q .name))
+
+unfoldable pub commutingIn : List ℕ → List ℕ → Wanted → ℕ → ℕ
+unfolding classWord placeIn
+commutingIn text tables q d = classWord tables d (200 + placeIn text tables q d)
+
+-- Class d is in the target's domain.
+unfoldable pub inDomain : List ℕ → Wanted → ℕ → Bool
+unfolding classWord bit
+inDomain tables q d = bit (classWord tables (q .number) 5) d
+
+-- The send locks class d: it is in the domain and has the method.
+unfoldable pub concerns : List ℕ → List ℕ → Wanted → ℕ → Bool
+unfolding inDomain placeIn memberCount
+concerns text tables q d = inDomain tables q d && ltb (placeIn text tables q d) (memberCount tables d 1)
+
+-- The row holds a lock that clashes with (M, true) on class d.
+unfoldable pub classMeets : List ℕ → ℕ → ℕ → Bool
+unfolding meets
+classMeets row d commuting = meets (bitOr (getD row (120 + d) 0) (getD row (136 + d) 0)) commuting
+
+-- The row holds a lock that clashes with the send's: "they are on one object, or on one class with at least one true"
+unfoldable pub rowMeets : List ℕ → List ℕ → Wanted → List ℕ → Bool
+unfolding meets classMeets classWord commutingIn concerns any upto
+rowMeets text tables q row =
+    cond (eqb (q .kind) 0)
+    (meets (bitOr (getD row (56 + q .number) 0) (getD row (136 + q .class) 0)) (classWord tables (q .class) (200 + q .place)))
+    (cond (eqb (q .kind) 1)
+    (classMeets row (q .class) (classWord tables (q .class) (200 + q .place)))
+    (any (λ d. concerns text tables q d && classMeets row d (commutingIn text tables q d)) (upto (λ d. d) (classCount tables))))
+
+abbrev pub withLock : List ℕ → ℕ → ℕ → List ℕ
+withLock row i place = set row i (bitOr (getD row i 0) (2 ^ place))
+
+-- The row with a domain's lock on class d, where the send locks it.
+abbrev pub domainLock : List ℕ → List ℕ → Wanted → List ℕ → ℕ → List ℕ
+domainLock text tables q row d = cond (concerns text tables q d) (withLock row (136 + d) (placeIn text tables q d)) row
+
+-- The row with the send's locks.
+unfoldable pub locked : List ℕ → List ℕ → Wanted → List ℕ → List ℕ
+unfolding placeIn concerns fold upto
+locked text tables q row =
+    cond (eqb (q .kind) 0) (withLock (withLock row (56 + q .number) (q .place)) (120 + q .class) (q .place))
+    (cond (eqb (q .kind) 1) (withLock row (136 + q .class) (q .place))
+    (fold (domainLock text tables q) row (upto (λ d. d) (classCount tables))))
+
+-- ---- the message
+
+-- The row with the message at its start: on its first object, or past the last object where there is none.
+unfoldable pub begunRow : List ℕ → List ℕ → Wanted → List ℕ → List ℕ
+unfolding objectFrom bodyIn objectWord nameOf objectRow
+begunRow text tables q row =
+    let named = set (set (set (set (set row 0 2) 5 (q .kind)) 6 (q .number)) 7 (q .name)) 8 (q .argument) in
+    let o = objectFrom tables (q .kind) (q .number) 0 in
+    let b = bodyIn text tables (objectWord tables o 1) (nameOf text (q .name)) in
+    cond (ltb o (objectCount tables)) (objectRow o (b .first) (b .first + b .count) 0 named) (set (set (set (set named 4 o) 1 0) 2 0) 3 0)

@@ -1,0 +1,1 @@
+// What the calls do to the lent words, as definitions: see specs/.
