@@ -1,0 +1,252 @@
+// The lines of a class in the second pass: its own, its fields' and its methods'; each line's fault, and with none the tables
+// with the line added.
+ghost use Prim.Native.Nat.{ℕ, _≤_, _<_};
+ghost use mathlib.Core.Path.{_≡_};
+ghost use mathlib.Core.Bool.{_||_};
+ghost use mathlib.Core.List.{List};
+ghost use lib.ListN.{length};
+ghost use lib.Dec.{eqb};
+ghost use Rattle.model.specs.Library.{classAt, above};
+ghost use Rattle.lex.specs.Piece.{wordsAfter};
+ghost use Rattle.words.specs.View.{bit, libraryOf};
+ghost use Rattle.classes.specs.Took.{Lent, ClassTook, FieldTook, MethodTook};
+ghost use Rattle.classes.specs.Lines.{lineOf, lineWord};
+ghost use Rattle.classes.specs.Joins.{Room, Making, Appended, MemberJoined, ClassJoined, ParentsJoined};
+ghost use Rattle.classes.specs.Made.{Free, begun, ClassMade, ClassAdded, FieldAdded, Writes, MethodPut, MethodAdded};
+
+// A member put behind the others of its kind; true where there is no room.
+fn append(tables: &mut [u32], class: u32, kind: u32, word: u32, body: u32) -> bool
+    requires { ⌜ Room (now tables) class kind ⌝ }
+    ensures { λ r. ⌜ ((text : List ℕ) → Appended text (now (tables .entry)) class kind word body r (now (tables .exit))) ⌝ }
+{
+    let count = words::member_count(tables, class, kind);
+    if 32 <= count {
+        return true;
+    }
+    words::put_member(tables, class, kind, count, word, body);
+    words::put_member_count(tables, class, kind, count + 1);
+    false
+}
+
+// A member joined to those of its kind: one of its name stays alone.
+fn add_member(text: &[u8], tables: &mut [u32], class: u32, kind: u32, word: u32, body: u32) -> bool
+    requires { ⌜ Room (now tables) class kind ⌝ }
+    ensures { λ r. ⌜ MemberJoined (now (text .entry)) (now (tables .entry)) class kind word body r (now (tables .exit)) ⌝ }
+{
+    let name = words::name_of(text, word);
+    if words::find(text, tables, class, kind, name) < words::member_count(tables, class, kind) {
+        return false;
+    }
+    append(tables, class, kind, word, body)
+}
+
+// The members of one kind that a class has, joined to those of the class that is being made.
+fn join(text: &[u8], tables: &mut [u32], class: u32, kind: u32, parent: u32) -> bool
+    requires { ⌜ Making (now tables) class kind ⌝ }
+    ensures { λ r. ⌜ ClassJoined (now (text .entry)) (now (tables .entry)) class kind parent r (now (tables .exit)) ⌝ }
+{
+    let count = words::shown_count(tables, parent, kind);
+    let mut j = 0;
+    while j < count {
+        let word = words::member_word(tables, parent, kind, j);
+        let body = words::body_word(tables, parent, kind, j);
+        if add_member(text, tables, class, kind, word, body) {
+            return true;
+        }
+        j += 1;
+    }
+    false
+}
+
+// The members of one kind of all the parents, joined to those of the class that is being made.
+fn inherit(text: &[u8], tables: &mut [u32], class: u32, kind: u32, names: &[u8]) -> bool
+    requires { ⌜ Making (now tables) class kind ⌝ }
+    ensures { λ r. ⌜ ParentsJoined (now (text .entry)) (now (tables .entry)) class kind (wordsAfter (now (names .entry))) r (now (tables .exit)) ⌝ }
+{
+    let mut at = 0;
+    while at < names.len() {
+        let parent = words::class_number(text, tables, lex::word_after(names, at));
+        if join(text, tables, class, kind, parent) {
+            return true;
+        }
+        at = lex::word_end_after(names, at);
+    }
+    false
+}
+
+// The mask of a class's number and its ancestors; of the number alone where no class has it.
+fn with_ancestors(tables: &[u32], class: u32) -> u32
+    requires { ⌜ class < 32 ⌝ }
+    ensures { λ r. ⌜ ((text : List ℕ) (d : ℕ) → bit r d ≡ (eqb class d || classAt (libraryOf text (now (tables .entry))) class .ancestors d)) ⌝ }
+{
+    let own = 1 << class;
+    if class < words::class_count(tables) {
+        own | words::class_word(tables, class, 3)
+    } else {
+        own
+    }
+}
+
+// The mask of the classes named and their ancestors.
+fn ancestors(text: &[u8], tables: &[u32], names: &[u8]) -> u32
+    ensures { λ r. ⌜ ((d : ℕ) → bit r d ≡ above (libraryOf (now (text .entry)) (now (tables .entry))) (wordsAfter (now (names .entry))) d) ⌝ }
+{
+    let mut mask = 0;
+    let mut at = 0;
+    while at < names.len() {
+        let parent = words::class_number(text, tables, lex::word_after(names, at));
+        mask = mask | with_ancestors(tables, parent);
+        at = lex::word_end_after(names, at);
+    }
+    mask
+}
+
+// A class begun: its name and its ancestors, and no member yet.
+fn begin_class(tables: &mut [u32], class: u32, word: u32, mask: u32)
+    ensures { λ r. ⌜ now (tables .exit) ≡ begun (now (tables .entry)) class word mask ⌝ }
+{
+    words::put_class_word(tables, class, 0, word);
+    words::put_class_word(tables, class, 1, 0);
+    words::put_class_word(tables, class, 2, 0);
+    words::put_class_word(tables, class, 3, mask);
+    words::put_class_word(tables, class, 4, 0);
+}
+
+// A class of that name with those parents made and counted; 17 where it would have too many members.
+fn make_class(text: &[u8], tables: &mut [u32], word: u32, names: &[u8]) -> u32
+    requires { ⌜ Free (now tables) ⌝ }
+    ensures { λ r. ⌜ ClassMade (now (text .entry)) (now (tables .entry)) word (wordsAfter (now (names .entry))) r (now (tables .exit)) ⌝ }
+{
+    let class = words::class_count(tables);
+    let mask = ancestors(text, tables, names);
+    begin_class(tables, class, word, mask);
+    if inherit(text, tables, class, 0, names) {
+        return 17;
+    }
+    if inherit(text, tables, class, 1, names) {
+        return 17;
+    }
+    words::put(tables, 0, class + 1);
+    0
+}
+
+// The fault of a class by its name's word and its parents, and with none the class added.
+fn add_class(text: &[u8], tables: &mut [u32], word: u32, parents: &[u8]) -> u32
+    requires { ⌜ length (now tables) ≡ 8072 ⌝ }
+    ensures { λ r. ⌜ ClassAdded (now (text .entry)) (now (tables .entry)) word (wordsAfter (now (parents .entry))) r (now (tables .exit)) ⌝ }
+{
+    let fault = parents::parent_fault(text, tables, words::name_of(text, word), parents);
+    if fault != 0 {
+        return fault;
+    }
+    if (16 <= words::class_count(tables)) | (4 < parents::count(parents)) {
+        return 17;
+    }
+    make_class(text, tables, word, parents)
+}
+
+// The word, for a class, of the name behind the first word of a line.
+fn name_behind(text: &[u8], at: usize, end: usize, class: u32) -> u32
+    requires { ⌜ at ≤ end ⌝ }
+    requires { ⌜ end ≤ length (now text) ⌝ }
+    ensures { λ r. ⌜ r ≡ lineWord (now (text .entry)) at end class ⌝ }
+{
+    let line = &text[at..end];
+    let from = lex::word_end(line, 0);
+    let size = lex::word_after(line, from).len();
+    words::name_word(class, at + from + 1, size)
+}
+
+// A class line: its fault, and with none the class added.
+pub fn class_line(text: &[u8], tables: &mut [u32], at: usize, end: usize) -> u32
+    requires { ⌜ Lent (now text) (now tables) at end ⌝ }
+    ensures { λ r. ⌜ ClassTook (now (text .entry)) (now (tables .entry)) (lineOf (now (text .entry)) at end) r (now (tables .exit)) ⌝ }
+{
+    let word = name_behind(text, at, end, 0);
+    let line = &text[at..end];
+    let name_end = lex::word_end_after(line, lex::word_end(line, 0));
+    let behind = lex::word_end_after(line, name_end);
+    add_class(text, tables, word, &line[behind..])
+}
+
+// A field added to a class by its name's word; 13 where the class has the name, 17 where there is no room.
+fn add_field(text: &[u8], tables: &mut [u32], class: u32, word: u32) -> u32
+    requires { ⌜ Room (now tables) class 0 ⌝ }
+    ensures { λ r. ⌜ FieldAdded (now (text .entry)) (now (tables .entry)) class word r (now (tables .exit)) ⌝ }
+{
+    let name = words::name_of(text, word);
+    if words::find(text, tables, class, 0, name) < words::member_count(tables, class, 0) {
+        return 13;
+    }
+    if append(tables, class, 0, word, 0) {
+        return 17;
+    }
+    0
+}
+
+// The class writes itself the method at a place.
+fn is_written(tables: &[u32], class: u32, place: u32) -> bool
+    ensures { λ r. ⌜ ((text : List ℕ) → Writes text (now (tables .entry)) class place r) ⌝ }
+{
+    if place < words::member_count(tables, class, 1) {
+        words::member_word(tables, class, 1, place) / 1048576 == class
+    } else {
+        false
+    }
+}
+
+// A method put at the place of its name, or behind the last; true where there is no room.
+fn write_method(tables: &mut [u32], class: u32, word: u32, body: u32, place: u32) -> bool
+    requires { ⌜ Room (now tables) class 1 ⌝ }
+    ensures { λ r. ⌜ ((text : List ℕ) → MethodPut text (now (tables .entry)) class word body place r (now (tables .exit))) ⌝ }
+{
+    if place < words::member_count(tables, class, 1) {
+        words::put_member(tables, class, 1, place, word, body);
+        return false;
+    }
+    append(tables, class, 1, word, body)
+}
+
+// A method written in a class by its name's word; 13 where the class writes it already, 17 where there is no room.
+fn add_method(text: &[u8], tables: &mut [u32], class: u32, word: u32) -> u32
+    requires { ⌜ Room (now tables) class 1 ⌝ }
+    ensures { λ r. ⌜ MethodAdded (now (text .entry)) (now (tables .entry)) class word r (now (tables .exit)) ⌝ }
+{
+    let name = words::name_of(text, word);
+    let place = words::find(text, tables, class, 1, name);
+    if is_written(tables, class, place) {
+        return 13;
+    }
+    let body = words::statement_count(tables) * 64;
+    if write_method(tables, class, word, body, place) {
+        return 17;
+    }
+    words::put_class_word(tables, class, 4, place);
+    0
+}
+
+// A field line: its fault, and with none the field added to the last class; nothing where there is no class.
+pub fn field_line(text: &[u8], tables: &mut [u32], at: usize, end: usize) -> u32
+    requires { ⌜ Lent (now text) (now tables) at end ⌝ }
+    ensures { λ r. ⌜ FieldTook (now (text .entry)) (now (tables .entry)) (lineOf (now (text .entry)) at end) r (now (tables .exit)) ⌝ }
+{
+    let count = words::class_count(tables);
+    if count == 0 {
+        return 0;
+    }
+    let class = count - 1;
+    add_field(text, tables, class, name_behind(text, at, end, class))
+}
+
+// A method line: its fault, and with none the method written in the last class; nothing where there is no class.
+pub fn method_line(text: &[u8], tables: &mut [u32], at: usize, end: usize) -> u32
+    requires { ⌜ Lent (now text) (now tables) at end ⌝ }
+    ensures { λ r. ⌜ MethodTook (now (text .entry)) (now (tables .entry)) (lineOf (now (text .entry)) at end) r (now (tables .exit)) ⌝ }
+{
+    let count = words::class_count(tables);
+    if count == 0 {
+        return 0;
+    }
+    let class = count - 1;
+    add_method(text, tables, class, name_behind(text, at, end, class))
+}
