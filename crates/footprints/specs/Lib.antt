@@ -1,0 +1,10 @@
+pub mod Masks
+pub mod Spelling
+pub mod Expressions
+pub mod Mentions
+pub mod Calls
+pub mod Says
+pub mod Fields
+pub mod Gathering
+pub mod Lines
+pub mod Targets

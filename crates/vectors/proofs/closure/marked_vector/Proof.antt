@@ -1,0 +1,56 @@
+-- `marked_vector` meets its contract: each turn joins the vector of one method, if that is marked.
+use borrow.Author.Needs.{needs}
+use Prim.Native.Nat.{ℕ, _-_, _≤_}
+use mathlib.Core.Path.{sym, subst}
+use native.Mathlib.Omega.{arith}
+use Rattle.footprints.specs.Fields.{fieldsIn}
+use Rattle.footprints.specs.Says.{Says}
+use Rattle.vectors.specs.Joining.{joinedModes, none-joined, one-more-joined}
+use Rattle.vectors.specs.Closure.{markedMode}
+use Rattle.vectors.proofs.closure.marked_vector.Statement.{statement}
+use Rattle.vectors.proofs.closure.marked_vector.Tie as tie
+
+abbrev Inv-loop : tie.InvT-loop
+Inv-loop text tables class marks vector₀ node₀ vector node =
+    (node ≤ 512) × Says (fieldsIn text tables class) (joinedModes (markedMode text tables class marks) node) vector
+
+abbrev μ-loop : tie.MeasureT-loop
+μ-loop text tables class marks vector₀ node₀ vector node = 512 - node
+
+loop-holds : tie.Need-loop-holds Inv-loop μ-loop
+loop-holds c =
+    let a = c .before .before .before .args in
+    (omega arith, none-joined (fieldsIn (a .text .now) (a .tables .now) (a .class)) (markedMode (a .text .now) (a .tables .now) (a .class) (a .marks .now)))
+
+loop-again : tie.Need-loop-again Inv-loop μ-loop
+loop-again c =
+    let m = c .before in
+    let h = m .before .before in
+    let a = h .before .before .before .before .args in
+    let fields = fieldsIn (a .text .now) (a .tables .now) (a .class) in
+    let mode = markedMode (a .text .now) (a .tables .now) (a .class) (a .marks .now) in (
+      omega arith,
+      subst (Says fields (joinedModes mode _)) (sym (c .joined .ensures))
+          (one-more-joined fields mode (h .loop .node) (h .loop .vector) (m .marked-body-vector .result) (h .loop .inv .1) (m .marked-body-vector .ensures)),
+    )
+
+returns : tie.Need-returns Inv-loop μ-loop
+returns c =
+    let h = c .before in
+    let a = h .before .before .before .before .args in
+    subst (λ (n : ℕ). Says (fieldsIn (a .text .now) (a .tables .now) (a .class)) (joinedModes (markedMode (a .text .now) (a .tables .now) (a .class) (a .marks .now)) n) (h .loop .vector))
+    (omega arith) (h .loop .inv .1)
+
+pub marked-vector-spec : {M : Type 1} → statement M
+marked-vector-spec =
+    tie.close
+    (tie.spec
+    Inv-loop
+    μ-loop
+    loop-holds
+    (λ c κs. search needs)
+    (λ c κs. search needs)
+    (λ c. search needs)
+    (λ c. search needs)
+    loop-again
+    returns)

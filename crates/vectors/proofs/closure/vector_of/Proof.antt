@@ -1,0 +1,26 @@
+-- `vector_of` meets its contract: the marked methods are those reached, and their bodies make the transitive vector.
+use borrow.Author.Needs.{needs}
+use Rattle.vectors.specs.Closure.{vector-found}
+use Rattle.vectors.proofs.closure.vector_of.Statement.{statement}
+use Rattle.vectors.proofs.closure.vector_of.Tie as tie
+
+returns : tie.Need-returns
+returns c =
+    let k = c .before .before .before in
+    let m = k .before .before .before in
+    let a = m .before .before .before .before .args in
+    vector-found (a .text .now) (a .tables .now) (a .class) (a .place) _ _ (c .marked-vector .result) (m .meet .ensures) (k .close .ensures) (c .marked-vector .ensures)
+
+pub vector-of-spec : {M : Type 1} → statement M
+vector-of-spec =
+    tie.close
+    (tie.spec
+    (λ c. search needs)
+    (λ c. search needs)
+    (λ c. search needs)
+    (λ c κs. search needs)
+    (λ c. search needs)
+    (λ c κs. search needs)
+    (λ c. search needs)
+    (λ c κs. search needs)
+    returns)

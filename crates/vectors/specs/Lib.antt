@@ -1,0 +1,10 @@
+pub mod Lists
+pub mod Nodes
+pub mod Bodies
+pub mod Marks
+pub mod Meeting
+pub mod Joining
+pub mod Commuting
+pub mod Closure
+pub mod Filled
+pub mod Filling

@@ -1,0 +1,138 @@
+// The masks of every method written into the tables: two of its transitive vector, and one of the methods that it commutes
+// with.
+use super::closure::vector_of;
+use footprints::Vector;
+ghost use Prim.Native.Nat.{_+_, _*_};
+ghost use mathlib.Core.Path.{_≡_};
+ghost use mathlib.Core.Bool.{true};
+ghost use mathlib.Core.List.{[]};
+ghost use lib.ListN.{getD};
+ghost use Rattle.model.specs.Mode.{compatible};
+ghost use Rattle.words.specs.View.{memberCount};
+ghost use Rattle.vectors.specs.Commuting.{apart, onlyReads};
+ghost use Rattle.vectors.specs.Filled.{Filled};
+ghost use Rattle.vectors.specs.Filling.{withVector, stored, commutingMask, TwoTo, CommutingTo, ClassFilled};
+
+// Table 1 of the paper: which modes of a field go together, Null, Read and Write in this order.
+const COMPATIBLE: [bool; 9] = [true, true, true, true, true, false, true, false, false];
+
+const READ: u32 = 136;
+
+const WRITE: u32 = 168;
+
+const COMMUTING: u32 = 200;
+
+// Modes of these ranks go together; what is no rank goes with each.
+pub fn compatible(a: u32, b: u32) -> bool
+    ensures { λ r. ⌜ r ≡ getD (getD compatible a []) b true ⌝ }
+{
+    if (a < 3) & (b < 3) {
+        let place = (a * 3 + b) as usize;
+        COMPATIBLE[place]
+    } else {
+        true
+    }
+}
+
+// No field that the one writes is used by the other: the table's test at all fields at once.
+fn commuting(a: Vector, b: Vector) -> bool
+    ensures { λ r. ⌜ r ≡ apart a b ⌝ }
+{
+    (a.writes & b.uses) | (a.uses & b.writes) == 0
+}
+
+// Where a mask of a method stands.
+fn mask_place(class: u32, row: u32, method: u32) -> usize
+    ensures { λ r. ⌜ r ≡ 8 + (class * 232 + (row + method)) ⌝ }
+{
+    8 + (class as usize * 232 + (row as usize + method as usize))
+}
+
+// The fields that are only read: a written field's bit is 0.
+fn read_mask(vector: Vector) -> u32
+    ensures { λ r. ⌜ r ≡ onlyReads vector ⌝ }
+{
+    vector.uses & !vector.writes
+}
+
+// The two masks of a vector stored.
+fn put_vector(tables: &mut [u32], class: u32, method: u32, vector: Vector)
+    ensures { λ r. ⌜ now (tables .exit) ≡ withVector (now (tables .entry)) class method vector ⌝ }
+{
+    words::put(tables, mask_place(class, READ, method), read_mask(vector));
+    words::put(tables, mask_place(class, WRITE, method), vector.writes);
+}
+
+// The vector that is stored of a method.
+fn stored_vector(tables: &[u32], class: u32, method: u32) -> Vector
+    ensures { λ r. ⌜ r ≡ stored (now (tables .entry)) class method ⌝ }
+{
+    let read = words::get(tables, mask_place(class, READ, method));
+    let write = words::get(tables, mask_place(class, WRITE, method));
+    Vector {
+        uses: read | write,
+        writes: write,
+    }
+}
+
+// The methods of the class with which a method commutes, by the vectors that are stored.
+fn commuting_mask(tables: &[u32], class: u32, method: u32) -> u32
+    ensures { λ r. ⌜ r ≡ commutingMask (now (tables .entry)) class method ⌝ }
+{
+    let count = words::member_count(tables, class, 1);
+    let vector = stored_vector(tables, class, method);
+    let mut mask = 0;
+    let mut other = 0;
+    while other < count {
+        let together = commuting(vector, stored_vector(tables, class, other));
+        mask = footprints::with_bit(mask, other, together);
+        other += 1;
+    }
+    mask
+}
+
+// The vectors of a class's methods stored.
+fn fill_masks(text: &[u8], tables: &mut [u32], class: u32)
+    ensures { λ r. ⌜ TwoTo (now (text .entry)) (now (tables .entry)) class (memberCount (now (tables .entry)) class 1) (now (tables .exit)) ⌝ }
+{
+    let count = words::member_count(tables, class, 1);
+    let mut method = 0;
+    while method < count {
+        let vector = vector_of(text, tables, class, method);
+        put_vector(tables, class, method, vector);
+        method += 1;
+    }
+}
+
+// The commuting masks of a class's methods stored.
+fn fill_commuting(tables: &mut [u32], class: u32)
+    ensures { λ r. ⌜ CommutingTo (now (tables .entry)) class (memberCount (now (tables .entry)) class 1) (now (tables .exit)) ⌝ }
+{
+    let count = words::member_count(tables, class, 1);
+    let mut method = 0;
+    while method < count {
+        let mask = commuting_mask(tables, class, method);
+        words::put(tables, mask_place(class, COMMUTING, method), mask);
+        method += 1;
+    }
+}
+
+// The masks of a class's methods stored.
+fn fill_class(text: &[u8], tables: &mut [u32], class: u32)
+    ensures { λ r. ⌜ ClassFilled (now (text .entry)) (now (tables .entry)) class (now (tables .exit)) ⌝ }
+{
+    fill_masks(text, tables, class);
+    fill_commuting(tables, class);
+}
+
+// The masks of every method of every class, by the library that the tables say.
+pub fn fill_vectors(text: &[u8], tables: &mut [u32])
+    ensures { λ r. ⌜ Filled (now (text .entry)) (now (tables .entry)) (now (tables .exit)) ⌝ }
+{
+    let count = words::class_count(tables);
+    let mut class = 0;
+    while class < count {
+        fill_class(text, tables, class);
+        class += 1;
+    }
+}
