@@ -1,0 +1,37 @@
+-- `prefixed_fault` meets its contract: its tests are the definition's, of the class with that name.
+use borrow.Author.Needs.{needs}
+use mathlib.Core.Path.{_∙_}
+use native.Mathlib.Omega.{arith}
+use Rattle.words.specs.Look.{class-number-within}
+use Rattle.bodies.specs.Below.{linesAt}
+use Rattle.bodies.specs.Held.{prefixed}
+use Rattle.bodies.proofs.prefixed_fault.Statement.{statement}
+use Rattle.bodies.proofs.prefixed_fault.Tie as tie
+
+is-ancestor-requires : tie.Need-is-ancestor-requires
+is-ancestor-requires c κs =
+    let k = c .before .before in
+    let a = k .before .before .before .before .before .args in
+    omega (arith, k .class-number .ensures, class-number-within (a .text .now) (a .tables .now) (a .class .now))
+
+returns : tie.Need-returns
+returns c =
+    let u = c .before in
+    let t = u .before in
+    let n = t .before in
+    let k = n .before in
+    let a = k .before .before .before .before .before .args in
+    c .lowest .ensures
+    ∙ prefixed (a .text .now) (a .tables .now) (linesAt (a .text .now) (a .below)) (a .class .now) (a .method .now)
+    (k .class-number .ensures) (n .class-count .ensures) (t .has-method .ensures) (u .is-ancestor .ensures (a .text .now))
+
+pub prefixed-fault-spec : {M : Type 1} → statement M
+prefixed-fault-spec =
+    tie.close
+    (tie.spec
+    (λ c κs. search needs)
+    (λ c κs. search needs)
+    (λ c κs. search needs)
+    is-ancestor-requires
+    (λ c κs. search needs)
+    returns)

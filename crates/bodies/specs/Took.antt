@@ -1,0 +1,72 @@
+-- What a statement line and an object line do to the tables: their faults, and with none the library with the line added.
+use Prim.Native.Nat.{ℕ, _+_, _-_, _<_}
+use mathlib.Core.Path.{_≡_, sym, ap, _∙_}
+use mathlib.Core.Logic.{_≢_}
+use mathlib.Core.Bool.{cond}
+use mathlib.Core.List.{List}
+use native.Mathlib.Omega.{arith}
+use lib.ListN.{length}
+use lib.Dec.{eqb, leb}
+use borrow.Author.Tests.{eq-eqb, ne-eqb}
+use Rattle.model.specs.Text.{words}
+use Rattle.model.specs.Word.{Name}
+use Rattle.model.specs.Form.{Statement, statementLine, objectLine, formOf, Line}
+use Rattle.model.specs.Library.{Library, add, lastClass}
+use Rattle.model.specs.Fault.{statementsSoFar, statementFault, objectFault}
+use Rattle.words.specs.View.{statementCount, libraryOf}
+use Rattle.words.specs.Look.{statement-count}
+use Rattle.classes.specs.Took.{Took, Lent}
+use Rattle.classes.specs.Lines.{lineOf}
+use Rattle.bodies.specs.Below.{linesAt}
+use Rattle.bodies.specs.Mentioned.{faultBehind, statement-fault}
+use Rattle.bodies.specs.Added.{withPlaced, Counts, withStatementAt, statement-added}
+
+module _ (text ws : List ℕ) (at end r : ℕ) (ws′ : List ℕ) where
+  -- A line that says a statement, where the tables have room for its place; its class may write methods further below.
+  abbrev pub StatementTook : Type 0
+  StatementTook =
+      (s : Statement) → formOf (words (lineOf text at end)) ≡ statementLine s → statementCount ws < 4096
+      → Took (libraryOf text ws) (record { form = statementLine s; at = at; size = end - at }) (statementLine s)
+      (statementFault (libraryOf text ws) (linesAt text (end + 1)) s) r (libraryOf text ws′)
+
+  abbrev pub ObjectTook : Type 0
+  ObjectTook =
+      (line : Line) (n c : Name) (vs : List ℕ) → formOf (words (lineOf text at end)) ≡ objectLine n c vs
+      → Took (libraryOf text ws) line (objectLine n c vs) (objectFault (libraryOf text ws) n c vs) r (libraryOf text ws′)
+
+-- The words of the line deserve `fault`.
+module _ (text ws : List ℕ) (at end : ℕ) (fault : ℕ) (e : fault ≡ faultBehind (libraryOf text ws) (linesAt text (end + 1)) (words (lineOf text at end))) where
+  deserved : (s : Statement) → formOf (words (lineOf text at end)) ≡ statementLine s
+      → statementFault (libraryOf text ws) (linesAt text (end + 1)) s ≡ cond (eqb fault 0) (cond (leb 32 (statementsSoFar (lastClass (libraryOf text ws)))) 17 0) fault
+  deserved s q =
+      let n : ℕ = cond (leb 32 (statementsSoFar (lastClass (libraryOf text ws)))) 17 0 in
+      statement-fault (libraryOf text ws) (linesAt text (end + 1)) (words (lineOf text at end)) s q ∙ ap (λ (k : ℕ). cond (eqb k 0) n k) (sym e)
+
+  pub statement-refused : fault ≢ 0 → (ws′ : List ℕ) → StatementTook text ws at end fault ws′
+  statement-refused h ws′ s q room = record {
+    number = sym (deserved s q ∙ rw (ne-eqb fault 0 h));
+    known = λ z. absurd (h z);
+  }
+
+  -- They deserve nothing, and the statement is counted in its method.
+  module _ (h : fault ≡ 0) (r : ℕ) (ws₁ : List ℕ) (k : Counts text ws r ws₁) where
+    asked : (s : Statement) → formOf (words (lineOf text at end)) ≡ statementLine s → r ≡ statementFault (libraryOf text ws) (linesAt text (end + 1)) s
+    asked s q = k .number ∙ sym (deserved s q ∙ rw (eq-eqb fault 0 h))
+
+    pub statement-over : r ≢ 0 → (ws′ : List ℕ) → StatementTook text ws at end r ws′
+    statement-over d ws′ s q room = record { number = asked s q; known = λ z. absurd (d z) }
+
+    pub statement-taken : r ≡ 0 → Lent text ws₁ at end → (ws′ : List ℕ) → ws′ ≡ withStatementAt ws₁ at (end - at) → StatementTook text ws at end 0 ws′
+    unfolding add
+    statement-taken z lent ws′ p s q room =
+        let n : statementCount ws₁ ≡ statementCount ws =
+        sym (statement-count text ws₁) ∙ ap (λ (l : Library). length (l .statements)) (k .known z) ∙ statement-count text ws in
+        let a : at < 65536 = omega (arith, lent .order, lent .within, lent .small) in
+        let b : end - at < 65536 = omega (arith, lent .within, lent .small) in
+        record {
+          number = sym z ∙ asked s q;
+          known = λ d.
+              ap (libraryOf text) p
+              ∙ statement-added text ws₁ at (end - at) (omega arith) (lent .room) a b s q
+              ∙ ap (λ (l : Library). withPlaced l (record { statement = s; at = at; size = end - at })) (k .known z);
+        }

@@ -1,0 +1,51 @@
+-- The filled tables give the image of the text; the buffer is tested before it is written.
+use mathlib.Core.Path.{_≡_}
+use native.Mathlib.Omega.{arith}
+use lib.ListN.{length}
+use Rattle.cishmolaq.specs.Laws.{compile-short, compile-done}
+use borrow.Author.Needs.{needs}
+use Rattle.cishmolaq.proofs.write_image.Statement.{statement}
+use Rattle.cishmolaq.proofs.write_image.Tie as tie
+
+fill-vectors-requires : tie.Need-fill-vectors-requires
+fill-vectors-requires c κs = search needs
+
+image-size-requires : tie.Need-image-size-requires
+image-size-requires c κs = search needs
+
+same-length : tie.Need-same-length
+same-length c = search needs
+
+returns : tie.Need-returns
+returns c = λ e.
+    let a = c .before .before .before .before .before .before .before .before .before .before .args in
+    let size : length (a .tables .now) ≡ 8072 = search needs in
+    compile-short (a .text .now) (a .image .now) (a .tables .now) _ size (c .before .before .before .before .before .fill-vectors .ensures) e _ (c .before .image-size .ensures) (c .if1 .taken)
+
+write-image-requires : tie.Need-write-image-requires
+write-image-requires c κs = search needs
+
+same-length-2 : tie.Need-same-length-2
+same-length-2 c = search needs
+
+same-length-3 : tie.Need-same-length-3
+same-length-3 c = search needs
+
+returns-2 : tie.Need-returns-2
+returns-2 c = λ e.
+    let a = c .before .before .before .before .before .before .before .before .before .before .before .before .before .before .before .args in
+    let size : length (a .tables .now) ≡ 8072 = search needs in
+    compile-done (a .text .now) (a .image .now) (a .tables .now) _ size (c .before .before .before .before .before .before .before .before .before .before .fill-vectors .ensures) e _ (c .before .before .before .before .before .before .image-size .ensures) (omega (arith, c .before .before .before .before .before .if1 .left)) _ (c .before .before .write-image .ensures)
+
+pub write-image-spec : {M : Type 1} → statement M
+write-image-spec =
+    tie.close
+    (tie.spec
+    fill-vectors-requires
+    image-size-requires
+    same-length
+    returns
+    write-image-requires
+    same-length-2
+    same-length-3
+    returns-2)

@@ -1,0 +1,142 @@
+// The public entries over a text: its verdict, its image, its statements, its starting values and the lines that `tables`
+// prints. Each is total, reads the text anew into tables of its own, and writes what is lent only where nothing is refused.
+use reader::Verdict;
+ghost use Prim.Native.Nat.{_≤_};
+ghost use mathlib.Core.Path.{_≡_};
+ghost use lib.ListN.{length};
+ghost use Rattle.model.specs.Image.{statementPart};
+ghost use Rattle.model.specs.Tables.{printed};
+ghost use Rattle.model.specs.Read.{accepted, read};
+ghost use Rattle.words.specs.View.{libraryOf};
+ghost use Rattle.image.specs.Append.{Printed};
+ghost use Rattle.reader.specs.Verdicts.{Checks};
+ghost use Rattle.cishmolaq.specs.Answers.{said, statementAnswer, Compiles, Starts};
+
+// Done, with a length where one is asked for; or refused with a number and a line, 0 where the number has no line.
+pub enum Answer {
+    Done(usize),
+    Refused(u32, usize),
+}
+
+// The verdict on a text: accepted, or refused with the number and the line of its fault.
+pub fn check(text: &[u8]) -> Verdict
+    ensures { λ r. ⌜ Checks (now (text .entry)) r ⌝ }
+{
+    let mut tables = [0u32; 8072];
+    reader::read_text(text, &mut tables)
+}
+
+// The image of an accepted text, whose library the tables say.
+fn write_image(text: &[u8], tables: &mut [u32], image: &mut [u8]) -> Answer
+    requires { ⌜ length (now tables) ≡ 8072 ⌝ }
+    ensures { λ r. ⌜ (read (now (text .entry)) ≡ accepted (libraryOf (now (text .entry)) (now (tables .entry)))
+        → Compiles (now (text .entry)) (now (image .entry)) r (now (image .exit))) ⌝ }
+{
+    vectors::fill::fill_vectors(text, tables);
+    let size = image::image_size(tables);
+    if image.len() < size {
+        return Answer::Refused(21, 0);
+    }
+    image::write_image(tables, image);
+    Answer::Done(size)
+}
+
+// Writes the image of the text, and answers its length. 21 where the buffer is shorter.
+pub fn compile(text: &[u8], image: &mut [u8]) -> Answer
+    ensures { λ r. ⌜ Compiles (now (text .entry)) (now (image .entry)) r (now (image .exit)) ⌝ }
+{
+    let mut tables = [0u32; 8072];
+    let verdict = reader::read_text(text, &mut tables);
+    match verdict {
+        Verdict::Refused(number, line) => Answer::Refused(number, line),
+        Verdict::Accepted => write_image(text, &mut tables, image),
+    }
+}
+
+// The statement with this count in tables that hold it; empty where there is none.
+fn part_at<'a>(text: &'a [u8], tables: &[u32], count: u32) -> &'a [u8]
+    ensures { λ r. ⌜ (read (now (text .entry)) ≡ accepted (libraryOf (now (text .entry)) (now (tables .entry)))
+        → now r ≡ statementPart (now (text .entry)) count) ⌝ }
+{
+    if count < words::statement_count(tables) {
+        words::part_of(text, words::get(tables, 3976 + count as usize))
+    } else {
+        &text[..0]
+    }
+}
+
+// The statement with this count, as that part of the text; empty where it is refused.
+pub fn statement(text: &[u8], count: u32) -> &[u8]
+    ensures { λ r. ⌜ now r ≡ statementPart (now (text .entry)) count ⌝ }
+{
+    let mut tables = [0u32; 8072];
+    let verdict = reader::read_text(text, &mut tables);
+    match verdict {
+        Verdict::Refused(_, _) => &text[..0],
+        Verdict::Accepted => part_at(text, &tables, count),
+    }
+}
+
+// The number that looking up a statement by its count gives: 23 from the number of statements on.
+pub fn statement_fault(text: &[u8], count: u32) -> Answer
+    ensures { λ r. ⌜ said r ≡ statementAnswer (now (text .entry)) count ⌝ }
+{
+    let mut tables = [0u32; 8072];
+    let verdict = reader::read_text(text, &mut tables);
+    match verdict {
+        Verdict::Refused(number, line) => Answer::Refused(number, line),
+        Verdict::Accepted => {
+            if count < words::statement_count(&tables) {
+                Answer::Done(0)
+            } else {
+                Answer::Refused(23, 0)
+            }
+        }
+    }
+}
+
+// The starting values of an accepted text, whose library the tables say.
+fn write_values(text: &[u8], tables: &[u32], values: &mut [u32]) -> Answer
+    ensures { λ r. ⌜ (read (now (text .entry)) ≡ accepted (libraryOf (now (text .entry)) (now (tables .entry)))
+        → Starts (now (text .entry)) (now (values .entry)) r (now (values .exit))) ⌝ }
+{
+    if values.len() != image::value_count(tables) {
+        return Answer::Refused(22, 0);
+    }
+    image::write_values(text, tables, values);
+    Answer::Done(0)
+}
+
+// Writes the text's starting values, object by object. 22 where the list has another count.
+pub fn starting_values(text: &[u8], values: &mut [u32]) -> Answer
+    ensures { λ r. ⌜ Starts (now (text .entry)) (now (values .entry)) r (now (values .exit)) ⌝ }
+{
+    let mut tables = [0u32; 8072];
+    let verdict = reader::read_text(text, &mut tables);
+    match verdict {
+        Verdict::Refused(number, line) => Answer::Refused(number, line),
+        Verdict::Accepted => write_values(text, &tables, values),
+    }
+}
+
+// The lines of an accepted text, whose library the tables say.
+fn write_lines(text: &[u8], tables: &mut [u32], out: &mut [u8]) -> usize
+    requires { ⌜ length (now tables) ≡ 8072 ⌝ }
+    ensures { λ r. ⌜ (read (now (text .entry)) ≡ accepted (libraryOf (now (text .entry)) (now (tables .entry)))
+        → Printed (printed (now (text .entry))) (now (out .entry)) r (now (out .exit))) ⌝ }
+{
+    vectors::fill::fill_vectors(text, tables);
+    image::write_tables(text, tables, out)
+}
+
+// Writes what `tables` prints for the text, as far as there is room, and answers its length.
+pub fn print_tables(text: &[u8], out: &mut [u8]) -> usize
+    ensures { λ r. ⌜ Printed (printed (now (text .entry))) (now (out .entry)) r (now (out .exit)) ⌝ }
+{
+    let mut tables = [0u32; 8072];
+    let verdict = reader::read_text(text, &mut tables);
+    match verdict {
+        Verdict::Refused(number, line) => image::write_refusal(number, line as u32, out),
+        Verdict::Accepted => write_lines(text, &mut tables, out),
+    }
+}

@@ -1,0 +1,62 @@
+-- `write_image` meets its contract: the pairs and the three parts, one behind the other, from the front on.
+use native.Mathlib.Omega.{arith}
+use borrow.Author.Needs.{needs}
+use Rattle.words.specs.View.{classCount}
+use Rattle.image.specs.Written.{imageFrom, masksFrom}
+use Rattle.image.specs.Append.{appended-then, appended-as, appended-over}
+use Rattle.image.specs.Sizes.{methods-le, places-length, masks-length, image-pairs}
+use Rattle.image.proofs.write_image.Statement.{statement}
+use Rattle.image.proofs.write_image.Tie as tie
+
+put-pairs-requires : tie.Need-put-pairs-requires
+put-pairs-requires c κs =
+    let ws = c .before .before .before .before .before .args .tables .now in
+    (omega (arith, c .before .statement-count .ensures), omega (arith, c .method-count .ensures, methods-le ws (classCount ws)))
+
+put-classes-requires : tie.Need-put-classes-requires
+put-classes-requires c κs =
+    let p = c .before .before .before .before in
+    let q = p .before .before .before .before in
+    let ws = q .before .before .before .before .before .before .args .tables .now in
+    omega (arith, q .put-pairs .ensures .behind, p .put-places .ensures .behind, places-length ws)
+
+put-classes-requires-2 : tie.Need-put-classes-requires-2
+unfolding masksFrom
+put-classes-requires-2 c κs =
+    let m = c .before .before .before .before in
+    let p = m .before .before .before .before .before in
+    let q = p .before .before .before .before in
+    let ws = q .before .before .before .before .before .before .args .tables .now in
+    omega (arith, q .put-pairs .ensures .behind, p .put-places .ensures .behind, m .put-classes .ensures .behind, places-length ws, masks-length ws, methods-le ws (classCount ws))
+
+returns : tie.Need-returns
+unfolding imageFrom
+returns c =
+    let m = c .before .before .before .before .before .before .before in
+    let p = m .before .before .before .before .before in
+    let q = p .before .before .before .before in
+    let n = q .before in
+    let ws = n .before .before .before .before .before .args .tables .now in
+    appended-over
+    (appended-then
+    (appended-then
+    (appended-then
+    (appended-as (image-pairs ws (n .before .statement-count .result) (n .method-count .result) (n .before .statement-count .ensures) (n .method-count .ensures)) (q .put-pairs .ensures))
+    (p .put-places .ensures))
+    (m .put-classes .ensures))
+    (c .before .before .put-classes2 .ensures))
+
+pub write-image-spec : {M : Type 1} → statement M
+write-image-spec =
+    tie.close
+    (tie.spec
+    (λ c κs. search needs)
+    (λ c κs. search needs)
+    put-pairs-requires
+    (λ c κs. search needs)
+    (λ c. search needs)
+    put-classes-requires
+    (λ c. search needs)
+    put-classes-requires-2
+    (λ c. search needs)
+    returns)

@@ -1,0 +1,124 @@
+-- What is written of one method, part by part, and how long it is at most.
+use Prim.Native.Nat.{ℕ, zero, suc, _+_, _*_, _/_, _%_, _≤_}
+use mathlib.Core.Path.{_≡_, refl, sym, ap, _∙_}
+use mathlib.Core.Bool.{Bool, true, false, cond}
+use mathlib.Core.List.{List, _++_, map, flatMap, append-assoc}
+use native.Mathlib.Omega.{arith}
+use lib.ListN.{length, drop, length-append, length-take, length-map}
+use Rattle.model.specs.Base.{bytes, upto}
+use Rattle.model.specs.Image.{u32Bytes}
+use Rattle.model.specs.Tables.{yesOrNo}
+use Rattle.words.specs.View.{nameOf, classWord, memberCount, bit}
+use Rattle.words.specs.Upto.{length-upto, upto-same}
+use Rattle.image.specs.declared.method.Part.{Part}
+use Rattle.image.specs.declared.method.Part.the-variants.{Masks, Commuting, Line}
+use Rattle.image.specs.Written.{numbers, letterFrom, lettersFrom, lineFrom}
+use Rattle.image.specs.Each.{map-numbers, each-le}
+
+-- The part of class c's method j.
+abbrev pub cellFrom : List ℕ → List ℕ → Part → ℕ → ℕ → List ℕ
+cellFrom text ws Masks c j = u32Bytes (classWord ws c (136 + j)) ++ u32Bytes (classWord ws c (168 + j))
+cellFrom text ws Commuting c j = u32Bytes (classWord ws c (200 + j))
+cellFrom text ws Line c j = lineFrom text ws c j
+
+-- That of all methods of class c.
+abbrev pub methodsFrom : List ℕ → List ℕ → Part → ℕ → List ℕ
+methodsFrom text ws part c = flatMap (cellFrom text ws part c) (numbers (memberCount ws c 1))
+
+-- The pieces of a line, each with the byte behind it: a name, the letters, and `y` or `n` for each method.
+abbrev pub nameFrom : List ℕ → ℕ → List ℕ
+nameFrom text w = nameOf text w ++ bytes " "
+
+abbrev pub vectorFrom : List ℕ → ℕ → ℕ → List ℕ
+vectorFrom ws c j = lettersFrom (classWord ws c (136 + j)) (classWord ws c (168 + j)) (memberCount ws c 0) ++ bytes " "
+
+abbrev pub flagsFrom : List ℕ → ℕ → ℕ → List ℕ
+flagsFrom ws c j = map (λ i. yesOrNo (bit (classWord ws c (200 + j)) i)) (numbers (memberCount ws c 1)) ++ bytes "\n"
+
+-- ---- marks
+
+abbrev pub markOf : ℕ → ℕ → ℕ → ℕ → ℕ → ℕ → ℕ
+markOf first second high middle low k = cond (bit first k) high (cond (bit second k) middle low)
+
+pub letters-marked : (read write n : ℕ) → (n ≡ 0 → ⊥) → upto (markOf write read 87 82 78) n ≡ lettersFrom read write n
+unfolding letterFrom
+letters-marked read write zero h = absurd (h refl)
+letters-marked read write (suc n) h = sym (map-numbers (letterFrom read write) (suc n))
+
+pub letters-none : (read write n : ℕ) → n ≡ 0 → bytes "-" ≡ lettersFrom read write n
+letters-none read write n e = rw e
+
+flag : (t : Bool) → cond t 121 (cond t 110 110) ≡ yesOrNo t
+flag true = refl
+flag false = refl
+
+pub flags-marked : (m n : ℕ) → upto (markOf m m 121 110 110) n ≡ map (λ i. yesOrNo (bit m i)) (numbers n)
+flags-marked m n =
+    upto-same (λ i. yesOrNo (bit m i)) (markOf m m 121 110 110) n (λ i h. flag (bit m i)) ∙ sym (map-numbers (λ i. yesOrNo (bit m i)) n)
+
+-- ---- lengths
+
+pub name-le : (text : List ℕ) (w : ℕ) → length (nameOf text w) ≤ 31
+unfolding nameOf
+name-le text w = let e = length-take (w % 32) (drop (w / 32 % 32768) text) in omega arith
+
+pub named-le : (text : List ℕ) (w : ℕ) → length (nameFrom text w) ≤ 32
+named-le text w = omega (arith, length-append (nameOf text w) (bytes " "), name-le text w)
+
+pub members-le : (ws : List ℕ) (c p : ℕ) → memberCount ws c p ≤ 32
+unfolding memberCount
+members-le ws c p = omega arith
+
+pub letters-le : (read write n : ℕ) → n ≤ 32 → length (lettersFrom read write n) ≤ 32
+letters-le read write zero h = omega arith
+letters-le read write (suc n) h =
+    let e = length-map (numbers (suc n)) (letterFrom read write) in
+    omega (arith, length-upto (λ k. k) (suc n))
+
+line-joined : (a b c d : List ℕ)
+    → (a ++ bytes " ") ++ ((b ++ bytes " ") ++ ((c ++ bytes " ") ++ (d ++ bytes "\n"))) ≡ a ++ bytes " " ++ b ++ bytes " " ++ c ++ bytes " " ++ d ++ bytes "\n"
+line-joined a b c d = simp append-assoc
+
+module _ (ws : List ℕ) (c j : ℕ) where
+  pub vector-le : length (vectorFrom ws c j) ≤ 33
+  vector-le =
+      let said = lettersFrom (classWord ws c (136 + j)) (classWord ws c (168 + j)) (memberCount ws c 0) in
+      omega (arith, length-append said (bytes " "), letters-le (classWord ws c (136 + j)) (classWord ws c (168 + j)) (memberCount ws c 0) (members-le ws c 0))
+
+  flags-le : length (flagsFrom ws c j) ≤ 33
+  flags-le =
+      let flag : ℕ → ℕ = λ i. yesOrNo (bit (classWord ws c (200 + j)) i) in
+      let n = memberCount ws c 1 in
+      omega (arith, length-append (map flag (numbers n)) (bytes "\n"), length-map (numbers n) flag, length-upto (λ k. k) n, members-le ws c 1)
+
+module _ (text ws : List ℕ) (c j : ℕ) where
+  -- A line in the four pieces that are written.
+  pub line-pieces : nameFrom text (classWord ws c 0) ++ (nameFrom text (classWord ws c (72 + j)) ++ (vectorFrom ws c j ++ flagsFrom ws c j)) ≡ lineFrom text ws c j
+  unfolding lineFrom
+  line-pieces =
+      line-joined (nameOf text (classWord ws c 0)) (nameOf text (classWord ws c (72 + j)))
+      (lettersFrom (classWord ws c (136 + j)) (classWord ws c (168 + j)) (memberCount ws c 0))
+      (map (λ i. yesOrNo (bit (classWord ws c (200 + j)) i)) (numbers (memberCount ws c 1)))
+
+  line-le : length (lineFrom text ws c j) ≤ 130
+  line-le =
+      let a = nameFrom text (classWord ws c 0) in
+      let b = nameFrom text (classWord ws c (72 + j)) in
+      let v = vectorFrom ws c j in
+      let f = flagsFrom ws c j in
+      let sum = length-append a (b ++ (v ++ f)) in
+      let rest = length-append b (v ++ f) in
+      omega (arith, ap length line-pieces, length-append v f, named-le text (classWord ws c 0), named-le text (classWord ws c (72 + j)), vector-le ws c j, flags-le ws c j)
+
+module _ (text ws : List ℕ) where
+  pub cell-le : (part : Part) (c j : ℕ) → length (cellFrom text ws part c j) ≤ 130
+  cell-le Masks c j = omega arith
+  cell-le Commuting c j = omega arith
+  cell-le Line c j = line-le text ws c j
+
+  pub methods-le : (part : Part) (c n : ℕ) → length (flatMap (cellFrom text ws part c) (numbers n)) ≤ n * 130
+  methods-le part c n = each-le 130 (cellFrom text ws part c) n (cell-le part c)
+
+  pub classes-le : (part : Part) (n : ℕ) → length (flatMap (methodsFrom text ws part) (numbers n)) ≤ n * 4160
+  classes-le part n =
+      each-le 4160 (methodsFrom text ws part) n (λ c. omega (arith, methods-le part c (memberCount ws c 1), members-le ws c 1))

@@ -1,0 +1,9 @@
+pub mod Written
+pub mod Append
+pub mod Each
+pub mod Cells
+pub mod Sizes
+pub mod Values
+pub mod Letters
+pub mod Laws
+pub mod Starting

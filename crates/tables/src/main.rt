@@ -1,0 +1,25 @@
+// Prints the access vectors and commuting methods of the class text on standard input (01, "What `tables` prints").
+use libc::STDIN_FILENO;
+use libc::STDOUT_FILENO;
+
+// Writes the first bytes of the lines out.
+fn print_front(lines: &[u8], size: usize) {
+    if size <= lines.len() {
+        let start = 0;
+        io::write_all(STDOUT_FILENO, &lines[start..size]);
+    }
+}
+
+// What `tables` prints for the text.
+fn print_text(text: &[u8]) {
+    let mut lines = [0u8; 66560];
+    let size = cishmolaq::print_tables(text, &mut lines);
+    print_front(&lines, size);
+}
+
+fn main() {
+    // Twice the longest text: what is longer is cut, and refused as too long all the same.
+    let mut text = io::large_buffer();
+    let size = io::read_full(STDIN_FILENO, &mut text);
+    print_text(&text[..size]);
+}

@@ -1,0 +1,42 @@
+-- `decide` meets its contract: the tests are the definition's; past them the object is one of at most 64.
+use borrow.Author.Needs.{needs}
+use mathlib.Core.Path.{ap, _∙_}
+use Rattle.state.specs.Row.{answer}
+use Rattle.turns.specs.Decides.{decided-answer, decided-misfit, decided-on}
+use Rattle.turns.proofs.decide.Statement.{statement}
+use Rattle.turns.proofs.decide.Tie as tie
+
+returns : tie.Need-returns
+returns c =
+    let o = c .before .before in
+    let n = o .before in
+    ap answer (c .get2 .ensures)
+    ∙ decided-answer _ _ _ _ _ _ (n .object-count .ensures) (o .get .ensures) (c .before .if1 .taken)
+
+returns-2 : tie.Need-returns-2
+returns-2 c =
+    let d = c .before in
+    let o = d .before .before in
+    let n = o .before in
+    decided-misfit _ _ _ _ _ _ (n .object-count .ensures) (o .get .ensures) (d .before .if1 .left) _ (d .get3 .ensures) (c .if2 .taken)
+
+returns-3 : tie.Need-returns-3
+returns-3 c =
+    let d = c .before .before in
+    let o = d .before .before in
+    let n = o .before in
+    c .activation-turn .ensures
+    ∙ decided-on _ _ _ _ _ _ (n .object-count .ensures) (o .get .ensures) (d .before .if1 .left) _ (d .get3 .ensures) (c .before .if2 .left)
+
+pub decide-spec : {M : Type 1} → statement M
+decide-spec =
+    tie.close
+    (tie.spec
+    (λ c κs. search needs)
+    (λ c κs. search needs)
+    (λ c κs. search needs)
+    returns
+    (λ c κs. search needs)
+    returns-2
+    (λ c κs. search needs)
+    returns-3)

@@ -1,0 +1,119 @@
+-- What an action comes to in a frame, by its keyword, the word behind that and its expression's value: of the words of a line
+-- that is a statement no others are looked at.
+use Prim.Native.Nat.{ℕ, _+_, _≤_, _<_}
+use mathlib.Core.Path.{_≡_}
+use mathlib.Core.Bool.{Bool, true, false, cond}
+use mathlib.Core.List.{List}
+use lib.ListN.{length, take, drop}
+use lib.Dec.{eqb, ltb}
+use borrow.Author.Tests.{lt-ltb, le-ltb, le-leb, lt-leb}
+use Rattle.model.specs.Text.{pieces}
+use Rattle.model.specs.Expression.{Expression, Parsed, parsed, unread, expression, valueOf}
+use Rattle.model.specs.Form.{Keyword, classWord, fieldWord, methodWord, endWord, objectWord, setWord, sendWord, replyWord, whenWord, otherWord, keywordOf, Statement}
+use Rattle.model.specs.Library.{Member, memberPlace, classNumber}
+use Rattle.lex.specs.Scan.{isByte, before}
+use Rattle.lex.specs.Piece.{piecesAfter, first, others, isEmpty, first-piece, empty-after}
+use Rattle.words.specs.View.{memberCount, membersOf, libraryOf}
+use Rattle.evaluate.specs.declared.Value.{Value}
+use Rattle.evaluate.specs.Valued.{valued}
+use Rattle.state.specs.Row.{Turn, misfit, skip, assign, reply}
+use Rattle.state.specs.Turn.{bodyIn, fieldIn, callTurn, statementTurn}
+use Rattle.turns.specs.declared.line.Frame.{Frame}
+
+abbrev pub isWhen : Keyword → Bool
+isWhen classWord = false
+isWhen fieldWord = false
+isWhen methodWord = false
+isWhen endWord = false
+isWhen objectWord = false
+isWhen setWord = false
+isWhen sendWord = false
+isWhen replyWord = false
+isWhen whenWord = true
+isWhen otherWord = false
+
+-- The words from an action's expression on, of those behind its keyword.
+abbrev pub skipped : Keyword → List (List ℕ) → List (List ℕ)
+skipped classWord ws = ws
+skipped fieldWord ws = ws
+skipped methodWord ws = ws
+skipped endWord ws = ws
+skipped objectWord ws = ws
+skipped setWord ws = others ws
+skipped sendWord ws = others (others (others ws))
+skipped replyWord ws = ws
+skipped whenWord ws = ws
+skipped otherWord ws = ws
+
+-- The body that `M` or `C.M` names for class c, cut at its points.
+unfoldable pub targetBody : List ℕ → List ℕ → ℕ → List (List ℕ) → Member
+unfolding bodyIn classNumber libraryOf
+targetBody text tables c ps =
+    cond (isEmpty (others ps)) (bodyIn text tables c (first ps))
+    (bodyIn text tables (classNumber (libraryOf text tables) (first ps)) (first (others ps)))
+
+unfoldable pub setTurn : List ℕ → List ℕ → Frame → List ℕ → ℕ → Turn
+unfolding memberPlace membersOf memberCount
+setTurn text tables frame f v =
+    let k = memberPlace (membersOf text tables (frame .class) 0) f in
+    cond (ltb k (memberCount tables (frame .class) 0)) (assign (frame .base + k) v) skip
+
+-- The turn by the keyword, the word w behind it and the value v.
+abbrev pub actedTurn : List ℕ → List ℕ → Frame → Keyword → List ℕ → ℕ → Turn
+actedTurn text tables frame setWord w v = setTurn text tables frame w v
+actedTurn text tables frame sendWord w v = callTurn (frame .depth) (targetBody text tables (frame .class) (pieces 46 w)) v
+actedTurn text tables frame replyWord w v = reply v
+actedTurn text tables frame classWord w v = misfit
+actedTurn text tables frame fieldWord w v = misfit
+actedTurn text tables frame methodWord w v = misfit
+actedTurn text tables frame endWord w v = misfit
+actedTurn text tables frame objectWord w v = misfit
+actedTurn text tables frame whenWord w v = misfit
+actedTurn text tables frame otherWord w v = misfit
+
+-- A turn by the value of the expression that was read.
+abbrev pub readTurn : (ℕ → Turn) → (Expression → ℕ) → Parsed → Turn
+readTurn turn value (parsed e ws) = turn (value e)
+readTurn turn value unread = misfit
+
+-- In a frame whose object has the values `own`.
+module _ (text tables own : List ℕ) (frame : Frame) where
+  -- An expression's value, and what the evaluator answers for one that was read at the front of s.
+  abbrev pub valueIn : Expression → ℕ
+  valueIn = valueOf (fieldIn text tables (frame .class) own) (frame .arg) (frame .got)
+
+  abbrev pub valuedIn : List ℕ → Parsed → Value
+  valuedIn = valued (fieldIn text tables (frame .class) own) (frame .arg) (frame .got)
+
+  abbrev pub turnIn : Statement → Turn
+  turnIn = statementTurn text tables (frame .class) (frame .base) (frame .depth) valueIn
+
+  -- The turn of the words behind a keyword.
+  abbrev pub wordsTurn : Keyword → List (List ℕ) → Turn
+  wordsTurn k ws = readTurn (actedTurn text tables frame k (first ws)) valueIn (expression (skipped k ws))
+
+  -- The turn of the words behind `when`.
+  abbrev pub guardedTurn : Parsed → Turn
+  guardedTurn (parsed e ws) = cond (eqb (valueIn e) 0) skip (wordsTurn (keywordOf (first ws)) (others ws))
+  guardedTurn unread = misfit
+
+-- The target t, whose first point is at e, or which has none.
+module _ (text tables : List ℕ) (c : ℕ) (t : List ℕ) (e : ℕ) (h : e ≡ 0 + before (isByte 46) t) where
+  pub target-own : length t ≤ e → targetBody text tables c (pieces 46 t) ≡ bodyIn text tables c (take e t)
+  unfolding targetBody
+  target-own l = rw (first-piece 46 t e h, empty-after 46 t e, le-leb (length t) e l)
+
+  pub target-other : e < length t → (d : ℕ) → d ≡ classNumber (libraryOf text tables) (take e t) → (m : List ℕ) → m ≡ first (piecesAfter 46 (drop e t))
+      → targetBody text tables c (pieces 46 t) ≡ bodyIn text tables d m
+  unfolding targetBody
+  target-other l d p m q = rw (first-piece 46 t e h, empty-after 46 t e, lt-leb (length t) e l, p, q)
+
+-- The field f, found at place k of n.
+module _ (text tables : List ℕ) (frame : Frame) (f : List ℕ) (v k n : ℕ) (e : k ≡ memberPlace (membersOf text tables (frame .class) 0) f) (q : n ≡ memberCount tables (frame .class) 0) where
+  pub set-there : k < n → assign (frame .base + k) v ≡ setTurn text tables frame f v
+  unfolding setTurn
+  set-there h = rw (← e, ← q, lt-ltb k n h)
+
+  pub set-none : n ≤ k → skip ≡ setTurn text tables frame f v
+  unfolding setTurn
+  set-none h = rw (← e, ← q, le-ltb k n h)

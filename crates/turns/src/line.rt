@@ -1,0 +1,288 @@
+// The turn of a statement, read from its line. A line that is no statement is a misfit; of one that is, only those words
+// are looked at that the turn needs.
+use super::body::Body;
+use super::body::body_in;
+use evaluate::Value;
+use rows::Turn;
+use syntax::form::Kind;
+use syntax::keyword::Keyword;
+use syntax::keyword::keyword_of;
+ghost use mathlib.Core.Path.{_≡_};
+ghost use lib.ListN.{drop};
+ghost use lib.Dec.{eqb};
+ghost use Rattle.model.specs.Text.{pieces, words};
+ghost use Rattle.model.specs.Expression.{expression};
+ghost use Rattle.model.specs.Form.{formOf};
+ghost use Rattle.lex.specs.Piece.{wordsAfter};
+ghost use Rattle.syntax.specs.Keywords.{saidKeyword};
+ghost use Rattle.syntax.specs.Kinds.{said};
+ghost use Rattle.state.specs.Turn.{callTurn, formTurn, lineTurn};
+ghost use Rattle.rows.specs.Carried.{saidTurn};
+ghost use Rattle.turns.specs.Bodies.{Bounds};
+ghost use Rattle.turns.specs.Actions.{isWhen, skipped, targetBody, setTurn, actedTurn, valuedIn, turnIn, wordsTurn, guardedTurn};
+
+const FIELDS: u32 = 0;
+
+const POINT: u8 = 46;
+
+const LEVELS: usize = 9;
+
+// What a statement runs in: the class of its object, the place of the object's first value, how many activations there
+// are, and the latest one's arg and got.
+pub struct Frame {
+    pub class: u32,
+    pub base: u32,
+    pub depth: u32,
+    pub arg: u32,
+    pub got: u32,
+}
+
+// The body that `M` names in a class, or `C.M` in the class C.
+fn target_body(text: &[u8], tables: &[u32], class: u32, target: &[u8]) -> Body
+    ensures { λ r. ⌜ Bounds (targetBody (now (text .entry)) (now (tables .entry)) class (pieces 46 (now (target .entry)))) (r .first) (r .end) ⌝ }
+{
+    let point = lex::piece_end(target, 0, POINT);
+    if target.len() <= point {
+        body_in(text, tables, class, &target[..point])
+    } else {
+        let owner = words::class_number(text, tables, &target[..point]);
+        body_in(text, tables, owner, lex::piece_after(target, point, POINT))
+    }
+}
+
+// A self-call, unless it would be the ninth activation.
+fn call_turn(text: &[u8], tables: &[u32], frame: Frame, target: &[u8], value: u32) -> Turn
+    ensures { λ r. ⌜ saidTurn r ≡ callTurn (frame .depth) (targetBody (now (text .entry)) (now (tables .entry)) (frame .class) (pieces 46 (now (target .entry)))) value ⌝ }
+{
+    if 8 <= frame.depth {
+        return Turn::Stop;
+    }
+    let body = target_body(text, tables, frame.class, target);
+    Turn::Call(body.first, body.end, value)
+}
+
+// A field of the object becomes the value; nothing where its class has no such field.
+fn set_turn(text: &[u8], tables: &[u32], frame: Frame, name: &[u8], value: u32) -> Turn
+    ensures { λ r. ⌜ saidTurn r ≡ setTurn (now (text .entry)) (now (tables .entry)) frame (now (name .entry)) value ⌝ }
+{
+    let field = words::find(text, tables, frame.class, FIELDS, name);
+    if field < words::member_count(tables, frame.class, FIELDS) {
+        Turn::Assign(frame.base as usize + field as usize, value)
+    } else {
+        Turn::Skip
+    }
+}
+
+// What an action comes to by its keyword, the word behind that, and its expression's value.
+fn acted_turn(
+    text: &[u8],
+    tables: &[u32],
+    frame: Frame,
+    keyword: Keyword,
+    word: &[u8],
+    value: u32,
+) -> Turn
+    ensures { λ r. ⌜ saidTurn r ≡ actedTurn (now (text .entry)) (now (tables .entry)) frame (saidKeyword keyword) (now (word .entry)) value ⌝ }
+{
+    match keyword {
+        Keyword::Set => set_turn(text, tables, frame, word, value),
+        Keyword::Send => call_turn(text, tables, frame, word, value),
+        Keyword::Reply => Turn::Reply(value),
+        Keyword::Class => Turn::Misfit,
+        Keyword::Field => Turn::Misfit,
+        Keyword::Method => Turn::Misfit,
+        Keyword::End => Turn::Misfit,
+        Keyword::Object => Turn::Misfit,
+        Keyword::When => Turn::Misfit,
+        Keyword::Other => Turn::Misfit,
+    }
+}
+
+// The place before an action's expression, whose keyword ends at `at`.
+fn expression_place(keyword: Keyword, line: &[u8], at: usize) -> usize
+    ensures { λ r. ⌜ wordsAfter (drop r (now (line .entry))) ≡ skipped (saidKeyword keyword) (wordsAfter (drop at (now (line .entry)))) ⌝ }
+{
+    match keyword {
+        Keyword::Set => lex::word_end_after(line, at),
+        Keyword::Send => {
+            let target = lex::word_end_after(line, at);
+            let to = lex::word_end_after(line, target);
+            lex::word_end_after(line, to)
+        }
+        Keyword::Reply => at,
+        Keyword::Class => at,
+        Keyword::Field => at,
+        Keyword::Method => at,
+        Keyword::End => at,
+        Keyword::Object => at,
+        Keyword::When => at,
+        Keyword::Other => at,
+    }
+}
+
+// The value of the expression behind `at`.
+fn value_behind(
+    text: &[u8],
+    tables: &[u32],
+    own: &[u32],
+    frame: Frame,
+    line: &[u8],
+    at: usize,
+) -> Value
+    ensures { λ r. ⌜ r ≡ valuedIn (now (text .entry)) (now (tables .entry)) (now (own .entry)) frame (now (line .entry)) (expression (wordsAfter (drop at (now (line .entry))))) ⌝ }
+{
+    let class = frame.class;
+    evaluate::value_after(
+        text,
+        tables,
+        class,
+        own,
+        frame.arg,
+        frame.got,
+        line,
+        at,
+        LEVELS,
+    )
+}
+
+// The turn of an action whose keyword ends at `at`.
+fn words_turn(
+    text: &[u8],
+    tables: &[u32],
+    own: &[u32],
+    frame: Frame,
+    keyword: Keyword,
+    line: &[u8],
+    at: usize,
+) -> Turn
+    ensures { λ r. ⌜ saidTurn r ≡ wordsTurn (now (text .entry)) (now (tables .entry)) (now (own .entry)) frame (saidKeyword keyword) (wordsAfter (drop at (now (line .entry)))) ⌝ }
+{
+    let place = expression_place(keyword, line, at);
+    let value = value_behind(text, tables, own, frame, line, place);
+    match value {
+        Value::Found(number, _) => acted_turn(
+            text,
+            tables,
+            frame,
+            keyword,
+            lex::word_after(line, at),
+            number,
+        ),
+        Value::Nothing => Turn::Misfit,
+    }
+}
+
+// The turn of a statement behind `when`, which ends at `at`.
+fn guarded_turn(
+    text: &[u8],
+    tables: &[u32],
+    own: &[u32],
+    frame: Frame,
+    line: &[u8],
+    at: usize,
+) -> Turn
+    ensures { λ r. ⌜ saidTurn r ≡ guardedTurn (now (text .entry)) (now (tables .entry)) (now (own .entry)) frame (expression (wordsAfter (drop at (now (line .entry))))) ⌝ }
+{
+    let guard = value_behind(text, tables, own, frame, line, at);
+    match guard {
+        Value::Found(number, end) => {
+            if number == 0 {
+                return Turn::Skip;
+            }
+            let keyword = keyword_of(lex::word_after(line, end));
+            words_turn(
+                text,
+                tables,
+                own,
+                frame,
+                keyword,
+                line,
+                lex::word_end_after(line, end),
+            )
+        }
+        Value::Nothing => Turn::Misfit,
+    }
+}
+
+// The line is a statement by its kind.
+fn is_statement(kind: Kind) -> bool
+    ensures { λ r. ⌜ r ≡ eqb (said kind) 3 ⌝ }
+{
+    match kind {
+        Kind::Class => false,
+        Kind::Field => false,
+        Kind::Method => false,
+        Kind::Statement => true,
+        Kind::End => false,
+        Kind::Object => false,
+        Kind::Malformed => false,
+    }
+}
+
+// The keyword is `when`.
+fn is_when(keyword: Keyword) -> bool
+    ensures { λ r. ⌜ r ≡ isWhen (saidKeyword keyword) ⌝ }
+{
+    match keyword {
+        Keyword::Class => false,
+        Keyword::Field => false,
+        Keyword::Method => false,
+        Keyword::End => false,
+        Keyword::Object => false,
+        Keyword::Set => false,
+        Keyword::Send => false,
+        Keyword::Reply => false,
+        Keyword::When => true,
+        Keyword::Other => false,
+    }
+}
+
+// The turn of a line; Misfit where it is no statement.
+fn statement_turn(text: &[u8], tables: &[u32], own: &[u32], frame: Frame, line: &[u8]) -> Turn
+    ensures { λ r. ⌜ saidTurn r ≡ formTurn (formOf (words (now (line .entry)))) (turnIn (now (text .entry)) (now (tables .entry)) (now (own .entry)) frame) ⌝ }
+{
+    if !is_statement(syntax::form::kind_of(line)) {
+        return Turn::Misfit;
+    }
+    let at = lex::word_end(line, 0);
+    let keyword = keyword_of(&line[..at]);
+    if is_when(keyword) {
+        guarded_turn(text, tables, own, frame, line, at)
+    } else {
+        words_turn(text, tables, own, frame, keyword, line, at)
+    }
+}
+
+// The turn of a statement on an object; Misfit where the statement, the object's class or its values are not there.
+pub fn line_turn(
+    text: &[u8],
+    tables: &[u32],
+    values: &[u32],
+    object: u32,
+    depth: u32,
+    statement: u32,
+    arg: u32,
+    got: u32,
+) -> Turn
+    ensures { λ r. ⌜ saidTurn r ≡ lineTurn (now (text .entry)) (now (tables .entry)) (now (values .entry)) object depth statement arg got ⌝ }
+{
+    let class = words::object_word(tables, object, 1);
+    let base = words::object_word(tables, object, 2);
+    let start = base as usize;
+    let end = start + words::member_count(tables, class, FIELDS) as usize;
+    if (words::statement_count(tables) <= statement)
+        | (words::class_count(tables) <= class)
+        | (values.len() < end)
+    {
+        return Turn::Misfit;
+    }
+    let line = words::part_of(text, words::get(tables, 3976 + statement as usize));
+    let frame = Frame {
+        class,
+        base,
+        depth,
+        arg,
+        got,
+    };
+    statement_turn(text, tables, &values[start..end], frame, line)
+}

@@ -1,0 +1,44 @@
+// The objects that a message visits: one, those of a class, or those of a domain, in text order.
+ghost use mathlib.Core.Path.{_≡_};
+ghost use Rattle.words.specs.View.{bit};
+ghost use Rattle.state.specs.Turn.{inTarget, objectFrom};
+
+// The mask has the bit; no mask has one past its 32.
+fn has_bit(mask: u32, place: u32) -> bool
+    ensures { λ r. ⌜ r ≡ bit mask place ⌝ }
+{
+    if place < 32 {
+        (mask >> place) % 2 == 1
+    } else {
+        false
+    }
+}
+
+// The object is one of those that a message to a target of that kind and number visits.
+fn in_target(tables: &[u32], kind: u32, number: u32, object: u32) -> bool
+    ensures { λ r. ⌜ r ≡ inTarget (now (tables .entry)) kind number object ⌝ }
+{
+    let class = words::object_word(tables, object, 1);
+    if kind == 0 {
+        return object == number;
+    }
+    if kind == 1 {
+        return class == number;
+    }
+    has_bit(words::class_word(tables, number, 5), class)
+}
+
+// The first object to visit from a number on; where there is none the number of objects, or `from` itself past that.
+pub fn object_from(tables: &[u32], kind: u32, number: u32, from: u32) -> u32
+    ensures { λ r. ⌜ r ≡ objectFrom (now (tables .entry)) kind number from ⌝ }
+{
+    let count = words::object_count(tables);
+    let mut object = from;
+    while object < count {
+        if in_target(tables, kind, number, object) {
+            return object;
+        }
+        object += 1;
+    }
+    object
+}
