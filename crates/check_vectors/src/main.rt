@@ -1,5 +1,5 @@
-// Prints the verdict on each text that its arguments name, one to a line: the name, the number of the fault and its line,
-// 0 0 for an accepted text. The texts and their verdicts are the test vectors'.
+// Prints for each text that its arguments name: its name and its verdict (the number of the fault and its line, 0 0 for an
+// accepted text), what `tables` prints, and the bytes of its image. The texts and these answers are the test vectors'.
 use libc::STDOUT_FILENO;
 
 // Writes a space and a number.
@@ -23,7 +23,32 @@ fn print_verdict(verdict: reader::Verdict) {
     io::write_all(STDOUT_FILENO, b"\n");
 }
 
-// Reads the file and writes its line.
+// Writes the first bytes of a part out.
+fn print_front(part: &[u8], size: usize) {
+    if size <= part.len() {
+        let start = 0;
+        io::write_all(STDOUT_FILENO, &part[start..size]);
+    }
+}
+
+// Writes what `tables` prints for the text.
+fn print_lines(text: &[u8]) {
+    let mut lines = [0u8; 66560];
+    let size = cishmolaq::print_tables(text, &mut lines);
+    print_front(&lines, size);
+}
+
+// Writes the image of the text, nothing where it is refused.
+fn print_image(text: &[u8]) {
+    let mut image = [0u8; 38936];
+    let answer = cishmolaq::compile(text, &mut image);
+    match answer {
+        cishmolaq::Answer::Done(size) => print_front(&image, size),
+        cishmolaq::Answer::Refused(_, _) => {}
+    }
+}
+
+// Reads the file and writes its answers.
 fn check_file(path: &[u8]) {
     let fd = os::open_read(path);
     if fd < 0 {
@@ -35,6 +60,8 @@ fn check_file(path: &[u8]) {
     libc::close(fd);
     io::write_all(STDOUT_FILENO, path);
     print_verdict(cishmolaq::check(&text[..size]));
+    print_lines(&text[..size]);
+    print_image(&text[..size]);
 }
 
 // The text that one argument names.

@@ -38,8 +38,8 @@ module _ (ws : List ℕ) where
   pub values-le : (n : ℕ) → total (λ o. shownCount ws (objectWord ws o 1) 0) n ≤ n * 32
   values-le n = total-le 32 (λ o. shownCount ws (objectWord ws o 1) 0) n (λ o. shown-le (objectWord ws o 1) 0)
 
-  pub methods-le : (n : ℕ) → total (λ c. memberCount ws c 1) n ≤ n * 32
-  methods-le n = total-le 32 (λ c. memberCount ws c 1) n (λ c. members-le ws c 1)
+  pub total-methods-le : (n : ℕ) → total (λ c. memberCount ws c 1) n ≤ n * 32
+  total-methods-le n = total-le 32 (λ c. memberCount ws c 1) n (λ c. members-le ws c 1)
 
   pub places-length : length (placesFrom ws) ≡ 8 * statementCount ws
   unfolding placesFrom
@@ -82,7 +82,7 @@ module _ (ws : List ℕ) where
       omega (arith, length-append (p ++ a ++ b) c, length-append (p ++ a) b, length-append p a, places-length, masks-length, commute-length)
 
   pub image-le : length (imageFrom ws) ≤ 38936
-  image-le = omega (arith, image-length, methods-le (classCount ws))
+  image-le = omega (arith, image-length, total-methods-le (classCount ws))
 
 module _ (text ws : List ℕ) where
   pub tables-le : length (tablesFrom text ws) ≤ 66560

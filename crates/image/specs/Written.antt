@@ -1,5 +1,5 @@
 -- What is written out of the tables' words: the image, the starting values and the lines that `tables` prints. Over the
--- words alone; the laws below tie each to the model's definition where the words say a text's library and its vectors.
+-- words alone; Laws and Starting tie each to the model's definition where the words say a library and its vectors.
 use Prim.Native.Nat.{ℕ, zero, suc, _+_, _/_, _%_}
 use mathlib.Core.Bool.{cond}
 use mathlib.Core.List.{List, _++_, map, flatMap}

@@ -3,14 +3,14 @@ use Prim.Native.Nat.{_≤_}
 use native.Mathlib.Omega.{arith}
 use borrow.Author.Needs.{needs}
 use Rattle.words.specs.View.{classCount}
-use Rattle.image.specs.Sizes.{methods-le, image-length}
+use Rattle.image.specs.Sizes.{total-methods-le, image-length}
 use Rattle.image.proofs.image_size.Statement.{statement}
 use Rattle.image.proofs.image_size.Tie as tie
 
 few : (c : tie.After-method-count) → c .method-count .result ≤ 512
 few c =
     let ws = c .before .before .before .args .tables .now in
-    omega (arith, c .method-count .ensures, methods-le ws (classCount ws))
+    omega (arith, c .method-count .ensures, total-methods-le ws (classCount ws))
 
 returns : tie.Need-returns
 returns c = omega (arith, c .method-count .ensures, c .before .statement-count .ensures, image-length (c .before .before .before .args .tables .now))

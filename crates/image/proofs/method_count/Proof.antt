@@ -6,7 +6,7 @@ use borrow.Author.Needs.{needs}
 use Rattle.words.specs.View.{classCount, memberCount}
 use Rattle.image.specs.Each.{total, total-more}
 use Rattle.image.specs.Cells.{members-le}
-use Rattle.image.specs.Sizes.{methods-le}
+use Rattle.image.specs.Sizes.{total-methods-le}
 use Rattle.image.proofs.method_count.Statement.{statement}
 use Rattle.image.proofs.method_count.Tie as tie
 
@@ -25,7 +25,7 @@ add-count : tie.Need-add-count Inv-loop μ-loop
 add-count c =
     let h = c .before .before in
     let ws = h .before .before .before .args .tables .now in
-    omega (arith, c .member-count .ensures, members-le ws (h .loop .class) 1, methods-le ws (h .loop .class))
+    omega (arith, c .member-count .ensures, members-le ws (h .loop .class) 1, total-methods-le ws (h .loop .class))
 
 loop-again : tie.Need-loop-again Inv-loop μ-loop
 loop-again c =

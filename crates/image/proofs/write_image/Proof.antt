@@ -4,14 +4,14 @@ use borrow.Author.Needs.{needs}
 use Rattle.words.specs.View.{classCount}
 use Rattle.image.specs.Written.{imageFrom, masksFrom}
 use Rattle.image.specs.Append.{appended-then, appended-as, appended-over}
-use Rattle.image.specs.Sizes.{methods-le, places-length, masks-length, image-pairs}
+use Rattle.image.specs.Sizes.{total-methods-le, places-length, masks-length, image-pairs}
 use Rattle.image.proofs.write_image.Statement.{statement}
 use Rattle.image.proofs.write_image.Tie as tie
 
 put-pairs-requires : tie.Need-put-pairs-requires
 put-pairs-requires c κs =
     let ws = c .before .before .before .before .before .args .tables .now in
-    (omega (arith, c .before .statement-count .ensures), omega (arith, c .method-count .ensures, methods-le ws (classCount ws)))
+    (omega (arith, c .before .statement-count .ensures), omega (arith, c .method-count .ensures, total-methods-le ws (classCount ws)))
 
 put-classes-requires : tie.Need-put-classes-requires
 put-classes-requires c κs =
@@ -27,7 +27,7 @@ put-classes-requires-2 c κs =
     let p = m .before .before .before .before .before in
     let q = p .before .before .before .before in
     let ws = q .before .before .before .before .before .before .args .tables .now in
-    omega (arith, q .put-pairs .ensures .behind, p .put-places .ensures .behind, m .put-classes .ensures .behind, places-length ws, masks-length ws, methods-le ws (classCount ws))
+    omega (arith, q .put-pairs .ensures .behind, p .put-places .ensures .behind, m .put-classes .ensures .behind, places-length ws, masks-length ws, total-methods-le ws (classCount ws))
 
 returns : tie.Need-returns
 unfolding imageFrom
