@@ -92,11 +92,11 @@ fn ancestors(text: &[u8], tables: &[u32], names: &[u8]) -> u32
     ensures { λ r. ⌜ ((d : ℕ) → bit r d ≡ above (libraryOf (now (text .entry)) (now (tables .entry))) (wordsAfter (now (names .entry))) d) ⌝ }
 {
     let mut mask = 0;
-    let mut at = 0;
-    while at < names.len() {
-        let parent = words::class_number(text, tables, lex::word_after(names, at));
+    let mut place = 0;
+    while place < names.len() {
+        let parent = words::class_number(text, tables, lex::word_after(names, place));
         mask = mask | with_ancestors(tables, parent);
-        at = lex::word_end_after(names, at);
+        place = lex::word_end_after(names, place);
     }
     mask
 }

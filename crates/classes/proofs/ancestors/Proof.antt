@@ -19,11 +19,11 @@ use Rattle.classes.proofs.ancestors.Statement.{statement}
 use Rattle.classes.proofs.ancestors.Tie as tie
 
 abbrev Inv-loop : tie.InvT-loop
-Inv-loop text tables names mask₀ at₀ mask at = (d : ℕ) → (bit mask d || above (libraryOf text tables) (wordsAfter (drop at names)) d) ≡ above
+Inv-loop text tables names mask₀ place₀ mask place = (d : ℕ) → (bit mask d || above (libraryOf text tables) (wordsAfter (drop place names)) d) ≡ above
     (libraryOf text tables) (wordsAfter names) d
 
 abbrev μ-loop : tie.MeasureT-loop
-μ-loop text tables names mask₀ at₀ mask at = length names - at
+μ-loop text tables names mask₀ place₀ mask place = length names - place
 
 loop-holds : tie.Need-loop-holds Inv-loop μ-loop
 loop-holds c =
@@ -51,7 +51,7 @@ loop-less c =
     let h = m .before .before .before .before in
     let a = h .before .before .before .before .args in
     let s = a .names .now in
-    let q = h .loop .at in
+    let q = h .loop .place in
     omega (arith, end-within-line s q (omega arith) (c .word-end-after .result) (c .word-end-after .ensures))
 
 loop-again : tie.Need-loop-again Inv-loop μ-loop
@@ -61,7 +61,7 @@ loop-again c =
     let h = m .before .before .before .before in
     let a = h .before .before .before .before .args in
     let s = a .names .now in
-    let q = h .loop .at in
+    let q = h .loop .place in
     let e = c .word-end-after in
     let l = libraryOf (a .text .now) (a .tables .now) in
     let k = m .before .class-number in
@@ -77,7 +77,7 @@ returns c =
     let a = h .before .before .before .before .args in
     λ d. or-false (bit (h .loop .mask) d)
     ∙ ap (λ (ps : List Name). bit (h .loop .mask) d || above (libraryOf (a .text .now) (a .tables .now)) ps d)
-    (sym (none-after 32 (a .names .now) (h .loop .at) (c .loop-test .left)))
+    (sym (none-after 32 (a .names .now) (h .loop .place) (c .loop-test .left)))
     ∙ h .loop .inv d
 
 pub ancestors-spec : {M : Type 1} → statement M
