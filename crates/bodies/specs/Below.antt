@@ -24,7 +24,7 @@ linesAt s at = linesFrom at (pieces 10 (drop at s))
 
 -- The line that lies from one place to another, LF excluded.
 abbrev pub placedLine : List ℕ → ℕ → ℕ → Line
-placedLine s at end = record { form = formOf (words (lineOf s at end)); at = at; size = end - at }
+placedLine s at end = record { form = formOf (words (lineOf s at end)); at = at; size = length (lineOf s at end) }
 
 more : (at : ℕ) (l : List ℕ) (ps : List (List ℕ)) → isEmpty ps ≡ false
     → linesFrom at (l ∷ ps) ≡ record { form = formOf (words l); at = at; size = length l } ∷ linesFrom (at + length l + 1) ps
@@ -37,11 +37,10 @@ module _ (s : List ℕ) (at end : ℕ) (h : end ≡ at + before (isByte 10) (dro
   unfolding linesAt
   lines-more k =
       let l = lineOf s at end in
-      let n : length l ≡ end - at = omega (arith, length-take (end - at) (drop at s), length-drop at s) in
-      let z : at + length l + 1 ≡ end + 1 = omega arith in
+      let z : at + length l + 1 ≡ end + 1 = omega (arith, length-take (end - at) (drop at s), length-drop at s) in
       ap (linesFrom at) (piece-at 10 s at end h ∙ ap (λ (ps : List (List ℕ)). l ∷ ps) (pieces-after 10 s end k))
       ∙ more at l (pieces 10 (drop (end + 1) s)) (ap isEmpty (pieces-step 10 (drop (end + 1) s)))
-      ∙ (λ i. record { form = formOf (words l); at = at; size = n i } ∷ linesFrom (z i) (pieces 10 (drop (end + 1) s)))
+      ∙ ap (λ (i : ℕ). placedLine s at end ∷ linesFrom i (pieces 10 (drop (end + 1) s))) z
 
   pub lines-end : length s ≤ end → linesAt s at ≡ []
   unfolding linesAt linesFrom

@@ -1,23 +1,24 @@
 -- What a statement line and an object line do to the tables: their faults, and with none the library with the line added.
-use Prim.Native.Nat.{ℕ, _+_, _-_, _<_}
-use mathlib.Core.Path.{_≡_, sym, ap, _∙_}
+use Prim.Native.Nat.{ℕ, min, _+_, _-_, _≤_, _<_}
+use mathlib.Core.Path.{_≡_, refl, sym, ap, _∙_}
 use mathlib.Core.Logic.{_≢_}
-use mathlib.Core.Bool.{cond}
-use mathlib.Core.List.{List}
+use mathlib.Core.Bool.{Bool, true, false, cond}
+use mathlib.Core.List.{List, [], _∷_}
 use native.Mathlib.Omega.{arith}
-use lib.ListN.{length}
+use lib.ListN.{length, drop, length-take, length-drop}
 use lib.Dec.{eqb, leb}
-use borrow.Author.Tests.{eq-eqb, ne-eqb}
-use Rattle.model.specs.Text.{words}
+use borrow.Author.Tests.{eq-eqb, ne-eqb, leb-true, leb-false}
+use Rattle.model.specs.Text.{pieces, words}
 use Rattle.model.specs.Word.{Name}
-use Rattle.model.specs.Form.{Statement, statementLine, objectLine, formOf, Line}
+use Rattle.model.specs.Form.{Statement, statementLine, objectLine, malformed, formOf, Line}
 use Rattle.model.specs.Library.{Library, add, lastClass}
 use Rattle.model.specs.Fault.{statementsSoFar, statementFault, objectFault}
+use Rattle.lex.specs.Scan.{isByte, before}
 use Rattle.words.specs.View.{statementCount, libraryOf}
 use Rattle.words.specs.Look.{statement-count}
 use Rattle.classes.specs.Took.{Took, Lent}
-use Rattle.classes.specs.Lines.{lineOf}
-use Rattle.bodies.specs.Below.{linesAt}
+use Rattle.classes.specs.Lines.{lineOf, line-length, line-cut}
+use Rattle.bodies.specs.Below.{linesAt, lines-end}
 use Rattle.bodies.specs.Mentioned.{faultBehind, statement-fault}
 use Rattle.bodies.specs.Added.{withPlaced, Counts, withStatementAt, statement-added}
 
@@ -26,7 +27,7 @@ module _ (text ws : List ℕ) (at end r : ℕ) (ws′ : List ℕ) where
   abbrev pub StatementTook : Type 0
   StatementTook =
       (s : Statement) → formOf (words (lineOf text at end)) ≡ statementLine s → statementCount ws < 4096
-      → Took (libraryOf text ws) (record { form = statementLine s; at = at; size = end - at }) (statementLine s)
+      → Took (libraryOf text ws) (record { form = statementLine s; at = at; size = length (lineOf text at end) }) (statementLine s)
       (statementFault (libraryOf text ws) (linesAt text (end + 1)) s) r (libraryOf text ws′)
 
   abbrev pub ObjectTook : Type 0
@@ -63,10 +64,46 @@ module _ (text ws : List ℕ) (at end : ℕ) (fault : ℕ) (e : fault ≡ faultB
         sym (statement-count text ws₁) ∙ ap (λ (l : Library). length (l .statements)) (k .known z) ∙ statement-count text ws in
         let a : at < 65536 = omega (arith, lent .order, lent .within, lent .small) in
         let b : end - at < 65536 = omega (arith, lent .within, lent .small) in
+        let size : end - at ≡ length (lineOf text at end) = sym (line-length text at end (lent .order) (lent .within)) in
         record {
           number = sym z ∙ asked s q;
           known = λ d.
               ap (libraryOf text) p
               ∙ statement-added text ws₁ at (end - at) (omega arith) (lent .room) a b s q
-              ∙ ap (λ (l : Library). withPlaced l (record { statement = s; at = at; size = end - at })) (k .known z);
+              ∙ (λ i. withPlaced (k .known z i) (record { statement = s; at = at; size = size i }));
         }
+
+-- ---- a line that is cut to the text
+
+-- An empty line says no statement.
+statement-bytes : (l : List ℕ) (s : Statement) → formOf (words l) ≡ statementLine s → 0 < length l
+unfolding formOf pieces
+statement-bytes [] s q = let p : malformed ≡ statementLine s = q in let z : _≡_ {A = ℕ} 0 1 = cc in absurd (omega arith)
+statement-bytes (x ∷ l) s q = omega arith
+
+module _ (text : List ℕ) (at end from stop : ℕ) (h : stop ≡ min end (length text)) (k : from ≡ min at stop) where
+  -- No line is below a text's end.
+  below-cut : linesAt text (stop + 1) ≡ linesAt text (end + 1)
+  below-cut = go (leb end (length text)) refl
+    where
+      none : (i : ℕ) → length text ≤ i → linesAt text i ≡ []
+      none i p = lines-end text i (i + before (isByte 10) (drop i text)) refl (omega arith)
+
+      go : (b : Bool) → leb end (length text) ≡ b → linesAt text (stop + 1) ≡ linesAt text (end + 1)
+      go true q = let e : stop ≡ end = omega (arith, leb-true end (length text) q) in ap (λ (i : ℕ). linesAt text (i + 1)) e
+      go false q =
+          let p = leb-false end (length text) q in
+          none (stop + 1) (omega arith) ∙ sym (none (end + 1) (omega arith))
+
+  pub statement-cut : (ws : List ℕ) (r : ℕ) (ws′ : List ℕ) → StatementTook text ws from stop r ws′ → StatementTook text ws at end r ws′
+  unfolding add
+  statement-cut ws r ws′ t s q room =
+      let l = libraryOf text ws in
+      let cut = line-cut text at end from stop h k in
+      let took = t s (ap (λ (l : List ℕ). formOf (words l)) cut ∙ q) room in
+      let n = length-take (end - at) (drop at text) in
+      let e : from ≡ at = omega (arith, statement-bytes (lineOf text at end) s q, n, length-drop at text) in
+      record {
+        number = took .number ∙ ap (λ (b : List Line). statementFault l b s) below-cut;
+        known = λ z. took .known z ∙ (λ i. add l (record { form = statementLine s; at = e i; size = length (cut i) }) (statementLine s));
+      }

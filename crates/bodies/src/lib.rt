@@ -1,6 +1,7 @@
 // The lines of bodies and of objects in the second pass: each line's fault, and with none the tables with the line added.
+// A line is given by two places; what lies past the end of the text is left out.
 use syntax::form::Kind;
-ghost use Prim.Native.Nat.{ℕ, _<_};
+ghost use Prim.Native.Nat.{ℕ, _≤_, _<_};
 ghost use mathlib.Core.Path.{_≡_};
 ghost use mathlib.Core.List.{List, [], _∷_};
 ghost use lib.ListN.{length};
@@ -259,8 +260,8 @@ fn put_object(tables: &mut [u32], word: u32, class: u32, part: u32)
     words::put(tables, 2, object + 1);
 }
 
-// A statement line: its fault, and with none the statement counted in its method and its place kept.
-pub fn statement_line(text: &[u8], tables: &mut [u32], at: usize, end: usize) -> u32
+// A statement line within the text.
+fn take_statement(text: &[u8], tables: &mut [u32], at: usize, end: usize) -> u32
     requires { ⌜ Lent (now text) (now tables) at end ⌝ }
     ensures { λ r. ⌜ StatementTook (now (text .entry)) (now (tables .entry)) at end r (now (tables .exit)) ⌝ }
 {
@@ -276,8 +277,18 @@ pub fn statement_line(text: &[u8], tables: &mut [u32], at: usize, end: usize) ->
     0
 }
 
-// An object line: its fault, and with none the object added.
-pub fn object_line(text: &[u8], tables: &mut [u32], at: usize, end: usize) -> u32
+// A statement line: its fault, and with none the statement counted in its method and its place kept.
+pub fn statement_line(text: &[u8], tables: &mut [u32], at: usize, end: usize) -> u32
+    requires { ⌜ length (now text) ≤ 32768 ⌝ }
+    requires { ⌜ length (now tables) ≡ 8072 ⌝ }
+    ensures { λ r. ⌜ StatementTook (now (text .entry)) (now (tables .entry)) at end r (now (tables .exit)) ⌝ }
+{
+    let stop = classes::least(end, text.len());
+    take_statement(text, tables, classes::least(at, stop), stop)
+}
+
+// An object line within the text.
+fn take_object(text: &[u8], tables: &mut [u32], at: usize, end: usize) -> u32
     requires { ⌜ Lent (now text) (now tables) at end ⌝ }
     ensures { λ r. ⌜ ObjectTook (now (text .entry)) (now (tables .entry)) at end r (now (tables .exit)) ⌝ }
 {
@@ -302,4 +313,14 @@ pub fn object_line(text: &[u8], tables: &mut [u32], at: usize, end: usize) -> u3
     let part = words::part_word(at + class_end, line.len() - class_end);
     put_object(tables, word, number, part);
     0
+}
+
+// An object line: its fault, and with none the object added.
+pub fn object_line(text: &[u8], tables: &mut [u32], at: usize, end: usize) -> u32
+    requires { ⌜ length (now text) ≤ 32768 ⌝ }
+    requires { ⌜ length (now tables) ≡ 8072 ⌝ }
+    ensures { λ r. ⌜ ObjectTook (now (text .entry)) (now (tables .entry)) at end r (now (tables .exit)) ⌝ }
+{
+    let stop = classes::least(end, text.len());
+    take_object(text, tables, classes::least(at, stop), stop)
 }

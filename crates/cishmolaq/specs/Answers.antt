@@ -3,12 +3,14 @@ use Prim.Native.Nat.{ℕ}
 use mathlib.Core.Path.{_≡_}
 use mathlib.Core.Bool.{cond}
 use mathlib.Core.List.{List}
-use lib.ListN.{length}
+use lib.ListN.{length, drop}
 use lib.Dec.{eqb, ltb}
 use Rattle.model.specs.Library.{Library}
-use Rattle.model.specs.Read.{Reading, accepted, refused, read}
+use Rattle.model.specs.Read.{Reading, accepted, refused, read, library}
 use Rattle.model.specs.Image.{image, imageOf, compiledInto, startingValues, startingValuesInto}
 use Rattle.model.specs.Vector.{program}
+use Rattle.state.specs.Calls.{stateWords}
+use Rattle.refine.specs.Rep.{Fresh}
 use Rattle.cishmolaq.specs.declared.Answer.{Answer}
 use Rattle.cishmolaq.specs.declared.Answer.the-variants.{Done, Refused}
 
@@ -38,6 +40,10 @@ valuesAnswer text count = orFault (read text) (λ l. cond (eqb count (length (st
 unfoldable pub statementAnswer : List ℕ → ℕ → Told
 statementAnswer text count = orFault (read text) (λ l. cond (ltb count (length (l .statements))) (done 0) (refusal 23 0))
 
+-- "Builder of the host program; after the text's own faults": 21, then 22.
+unfoldable pub startAnswer : List ℕ → ℕ → ℕ → Told
+startAnswer text count size = orFault (read text) (λ l. cond (ltb size stateWords) (refusal 21 0) (cond (eqb count (length (startingValues l))) (done 0) (refusal 22 0)))
+
 -- The answer of `compile`, and the buffer after it.
 pub record Compiles (text buffer : List ℕ) (r : Answer) (after : List ℕ) : Type 0 where
   pub says : said r ≡ compileAnswer text (length buffer)
@@ -47,3 +53,13 @@ pub record Compiles (text buffer : List ℕ) (r : Answer) (after : List ℕ) : T
 pub record Starts (text list : List ℕ) (r : Answer) (after : List ℕ) : Type 0 where
   pub says : said r ≡ valuesAnswer text (length list)
   pub values : after ≡ startingValuesInto text list
+
+-- What a start leaves: the words of a fresh start, and what lies past them as it was; where it is refused, all as it was.
+abbrev pub StartLeaves : List ℕ → List ℕ → List ℕ → Told → List ℕ → Type 0
+StartLeaves text values ws (done n) after = Fresh text after values (program (library text)) × (drop stateWords after ≡ drop stateWords ws)
+StartLeaves text values ws (refusal number line) after = after ≡ ws
+
+-- The answer of `start`, and the state after it.
+pub record Begins (text values ws : List ℕ) (r : Answer) (after : List ℕ) : Type 0 where
+  pub says : said r ≡ startAnswer text (length values) (length ws)
+  pub leaves : StartLeaves text values ws (said r) after

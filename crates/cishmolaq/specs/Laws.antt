@@ -142,7 +142,7 @@ module _ (text list : List ℕ) where
     starting-is : startingFrom text ws ≡ startingValues (libraryOf text ws)
     starting-is = starting-law text ws (libraryOf text ws) refl (accepted-short text (libraryOf text ws) e)
 
-    count-is : valueCount ws ≡ length (startingValues (libraryOf text ws))
+    pub count-is : valueCount ws ≡ length (startingValues (libraryOf text ws))
     count-is = sym (starting-length text ws) ∙ ap length starting-is
 
     pub values-other : (length list ≡ valueCount ws → ⊥) → Starts text list (Refused 22 0) list

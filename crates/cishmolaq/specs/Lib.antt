@@ -1,3 +1,8 @@
 pub mod Answers
 pub mod Lines
 pub mod Laws
+pub mod Start
+pub mod Past
+pub mod Promises
+pub mod Made
+pub mod PlainCourse

@@ -1,16 +1,23 @@
-// The public entries over a text: its verdict, its image, its statements, its starting values and the lines that `tables`
-// prints. Each is total, reads the text anew into tables of its own, and writes what is lent only where nothing is refused.
+// The public entries over a text: its verdict, its image, its statements, its starting values, the lines that `tables` prints,
+// and a start on it. Each is total, reads the text anew into tables of its own, and writes what is lent only where nothing is
+// refused.
 use reader::Verdict;
+use sends::Target;
+use slots::Outcome;
 ghost use Prim.Native.Nat.{_≤_};
 ghost use mathlib.Core.Path.{_≡_};
 ghost use lib.ListN.{length};
 ghost use Rattle.model.specs.Image.{statementPart};
 ghost use Rattle.model.specs.Tables.{printed};
 ghost use Rattle.model.specs.Read.{accepted, read};
+ghost use Rattle.model.specs.Service.{begin, send, step, commit, abort};
+ghost use Rattle.model.specs.Machine.{to};
 ghost use Rattle.words.specs.View.{libraryOf};
 ghost use Rattle.image.specs.Append.{Printed};
 ghost use Rattle.reader.specs.Verdicts.{Checks};
-ghost use Rattle.cishmolaq.specs.Answers.{said, statementAnswer, Compiles, Starts};
+ghost use Rattle.sends.specs.Aimed.{aimed};
+ghost use Rattle.cishmolaq.specs.Promises.{Does};
+ghost use Rattle.cishmolaq.specs.Answers.{said, statementAnswer, Compiles, Starts, Begins};
 
 // Done, with a length where one is asked for; or refused with a number and a line, 0 where the number has no line.
 pub enum Answer {
@@ -139,4 +146,79 @@ pub fn print_tables(text: &[u8], out: &mut [u8]) -> usize
         Verdict::Refused(number, line) => image::write_refusal(number, line as u32, out),
         Verdict::Accepted => write_lines(text, &mut tables, out),
     }
+}
+
+// Starts on an accepted text, whose library the tables say.
+fn start_on(text: &[u8], tables: &mut [u32], values: &[u32], state: &mut [u32]) -> Answer
+    requires { ⌜ length (now tables) ≡ 8072 ⌝ }
+    ensures { λ r. ⌜ (read (now (text .entry)) ≡ accepted (libraryOf (now (text .entry)) (now (tables .entry)))
+        → Begins (now (text .entry)) (now (values .entry)) (now (state .entry)) r (now (state .exit))) ⌝ }
+{
+    let count = image::value_count(tables);
+    if state.len() < 26184 {
+        Answer::Refused(21, 0)
+    } else if values.len() != count {
+        Answer::Refused(22, 0)
+    } else {
+        starting::fill(text, tables);
+        starting::install(tables, state);
+        Answer::Done(0)
+    }
+}
+
+// Starts the machine on a text and its values: the tables of the text and eight closed slots, in the lent state. 21 where
+// the state is shorter than 26,184 words, 22 where the list has another count.
+pub fn start(text: &[u8], values: &[u32], state: &mut [u32]) -> Answer
+    ensures { λ r. ⌜ Begins (now (text .entry)) (now (values .entry)) (now (state .entry)) r (now (state .exit)) ⌝ }
+{
+    let mut tables = [0u32; 8072];
+    let verdict = reader::read_text(text, &mut tables);
+    match verdict {
+        Verdict::Refused(number, line) => Answer::Refused(number, line),
+        Verdict::Accepted => start_on(text, &mut tables, values, state),
+    }
+}
+
+// Opens a slot for a transaction. 33 where it is open.
+pub fn begin(text: &[u8], state: &mut [u32], values: &[u32], slot: u32) -> Outcome
+    ensures { λ r. ⌜ Does (now (text .entry)) (now (state .entry)) (now (values .entry)) (begin slot) r (now (state .exit)) (now (values .entry)) ⌝ }
+{
+    slots::begin(text, state, values, slot)
+}
+
+// Sends a message to a target: the method at a place of its class, with an argument. 40 with the lowest slot whose locks
+// clash; else the transaction has the send's locks until commit or abort, and the message is at its start.
+pub fn send(
+    text: &[u8],
+    state: &mut [u32],
+    values: &[u32],
+    slot: u32,
+    target: Target,
+    place: u32,
+    argument: u32,
+) -> Outcome
+    ensures { λ r. ⌜ Does (now (text .entry)) (now (state .entry)) (now (values .entry)) (send slot (to (aimed target) place argument)) r (now (state .exit)) (now (values .entry)) ⌝ }
+{
+    sends::send(text, state, values, slot, target, place, argument)
+}
+
+// Runs one statement of the slot's message, or ends a body. 41 where the message is stopped; that does the work of abort.
+pub fn step(text: &[u8], state: &mut [u32], values: &mut [u32], slot: u32) -> Outcome
+    ensures { λ r. ⌜ Does (now (text .entry)) (now (state .entry)) (now (values .entry)) (step slot) r (now (state .exit)) (now (values .exit)) ⌝ }
+{
+    steps::step(text, state, values, slot)
+}
+
+// Frees the slot and leaves the values.
+pub fn commit(text: &[u8], state: &mut [u32], values: &[u32], slot: u32) -> Outcome
+    ensures { λ r. ⌜ Does (now (text .entry)) (now (state .entry)) (now (values .entry)) (commit slot) r (now (state .exit)) (now (values .entry)) ⌝ }
+{
+    slots::commit(text, state, values, slot)
+}
+
+// Puts back each value that the transaction set, and frees the slot.
+pub fn abort(text: &[u8], state: &mut [u32], values: &mut [u32], slot: u32) -> Outcome
+    ensures { λ r. ⌜ Does (now (text .entry)) (now (state .entry)) (now (values .entry)) (abort slot) r (now (state .exit)) (now (values .exit)) ⌝ }
+{
+    slots::abort(text, state, values, slot)
 }

@@ -1,10 +1,10 @@
 -- Where the name behind a line's keyword stands in the text, and the word that says it.
-use Prim.Native.Nat.{ℕ, _+_, _-_, _/_, _≤_, _<_}
+use Prim.Native.Nat.{ℕ, min, _+_, _-_, _/_, _≤_, _<_}
 use mathlib.Core.Path.{_≡_, refl, sym, ap, ap₂, _∙_}
 use mathlib.Core.Bool.{Bool, true, false, not, _&&_, false≢true}
 use mathlib.Core.List.{List, [], _∷_}
 use native.Mathlib.Omega.{arith}
-use lib.ListN.{length, take, drop, length-drop}
+use lib.ListN.{length, take, drop, length-take, length-drop}
 use lib.Seq.{drop-drop, take-take, take-add, drop-at, take-all, length-take-le}
 use lib.Dec.{leb}
 use borrow.Author.Tests.{leb-true, leb-false}
@@ -46,6 +46,32 @@ part-part s at i m n h k =
 -- The bytes of the line from `at` to `end`.
 abbrev pub lineOf : List ℕ → ℕ → ℕ → List ℕ
 lineOf text at end = take (end - at) (drop at text)
+
+empty : (l : List ℕ) → length l ≡ 0 → l ≡ []
+empty [] h = refl
+empty (x ∷ l) h = absurd (omega arith)
+
+-- A line that runs past the text is what lies of it within the text.
+pub line-cut : (text : List ℕ) (at end from stop : ℕ) → stop ≡ min end (length text) → from ≡ min at stop → lineOf text from stop ≡ lineOf text at end
+line-cut text at end from stop h k = go (leb at stop) (leb end (length text)) refl refl
+  where
+    size : (i j : ℕ) → length (lineOf text i j) ≡ min (j - i) (length text - i)
+    size i j = omega (arith, length-take (j - i) (drop i text), length-drop i text)
+
+    go : (a b : Bool) → leb at stop ≡ a → leb end (length text) ≡ b → lineOf text from stop ≡ lineOf text at end
+    go true true p q =
+        let e : from ≡ at = omega (arith, leb-true at stop p) in
+        let f : stop ≡ end = omega (arith, leb-true end (length text) q) in
+        λ i. lineOf text (e i) (f i)
+    go true false p q =
+        let e : from ≡ at = omega (arith, leb-true at stop p) in
+        let s = length-drop at text in
+        ap (λ (i : ℕ). lineOf text i stop) e
+        ∙ take-all (stop - at) (drop at text) (omega (arith, leb-false end (length text) q))
+        ∙ sym (take-all (end - at) (drop at text) (omega (arith, leb-false end (length text) q)))
+    go false b p q =
+        let e = leb-false at stop p in
+        empty (lineOf text from stop) (omega (arith, size from stop)) ∙ sym (empty (lineOf text at end) (omega (arith, size at end)))
 
 -- The word, for class c, of the name behind the line's first word.
 unfoldable pub lineWord : List ℕ → ℕ → ℕ → ℕ → ℕ

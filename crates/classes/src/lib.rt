@@ -1,6 +1,6 @@
 // The lines of a class in the second pass: its own, its fields' and its methods'; each line's fault, and with none the tables
-// with the line added.
-ghost use Prim.Native.Nat.{ℕ, _≤_, _<_};
+// with the line added. A line is given by two places; what lies past the end of the text is left out.
+ghost use Prim.Native.Nat.{ℕ, min, _≤_, _<_};
 ghost use mathlib.Core.Path.{_≡_};
 ghost use mathlib.Core.Bool.{_||_};
 ghost use mathlib.Core.List.{List};
@@ -145,6 +145,13 @@ fn add_class(text: &[u8], tables: &mut [u32], word: u32, parents: &[u8]) -> u32
     make_class(text, tables, word, parents)
 }
 
+// The lower of two places.
+pub fn least(a: usize, b: usize) -> usize
+    ensures { λ r. ⌜ r ≡ min a b ⌝ }
+{
+    if a <= b { a } else { b }
+}
+
 // The word, for a class, of the name behind the first word of a line.
 fn name_behind(text: &[u8], at: usize, end: usize, class: u32) -> u32
     requires { ⌜ at ≤ end ⌝ }
@@ -157,8 +164,8 @@ fn name_behind(text: &[u8], at: usize, end: usize, class: u32) -> u32
     words::name_word(class, at + from + 1, size)
 }
 
-// A class line: its fault, and with none the class added.
-pub fn class_line(text: &[u8], tables: &mut [u32], at: usize, end: usize) -> u32
+// A class line within the text.
+fn take_class(text: &[u8], tables: &mut [u32], at: usize, end: usize) -> u32
     requires { ⌜ Lent (now text) (now tables) at end ⌝ }
     ensures { λ r. ⌜ ClassTook (now (text .entry)) (now (tables .entry)) (lineOf (now (text .entry)) at end) r (now (tables .exit)) ⌝ }
 {
@@ -167,6 +174,16 @@ pub fn class_line(text: &[u8], tables: &mut [u32], at: usize, end: usize) -> u32
     let name_end = lex::word_end_after(line, lex::word_end(line, 0));
     let behind = lex::word_end_after(line, name_end);
     add_class(text, tables, word, &line[behind..])
+}
+
+// A class line: its fault, and with none the class added.
+pub fn class_line(text: &[u8], tables: &mut [u32], at: usize, end: usize) -> u32
+    requires { ⌜ length (now text) ≤ 32768 ⌝ }
+    requires { ⌜ length (now tables) ≡ 8072 ⌝ }
+    ensures { λ r. ⌜ ClassTook (now (text .entry)) (now (tables .entry)) (lineOf (now (text .entry)) at end) r (now (tables .exit)) ⌝ }
+{
+    let stop = least(end, text.len());
+    take_class(text, tables, least(at, stop), stop)
 }
 
 // A field added to a class by its name's word; 13 where the class has the name, 17 where there is no room.
@@ -225,8 +242,8 @@ fn add_method(text: &[u8], tables: &mut [u32], class: u32, word: u32) -> u32
     0
 }
 
-// A field line: its fault, and with none the field added to the last class; nothing where there is no class.
-pub fn field_line(text: &[u8], tables: &mut [u32], at: usize, end: usize) -> u32
+// A field line within the text.
+fn take_field(text: &[u8], tables: &mut [u32], at: usize, end: usize) -> u32
     requires { ⌜ Lent (now text) (now tables) at end ⌝ }
     ensures { λ r. ⌜ FieldTook (now (text .entry)) (now (tables .entry)) (lineOf (now (text .entry)) at end) r (now (tables .exit)) ⌝ }
 {
@@ -238,8 +255,18 @@ pub fn field_line(text: &[u8], tables: &mut [u32], at: usize, end: usize) -> u32
     add_field(text, tables, class, name_behind(text, at, end, class))
 }
 
-// A method line: its fault, and with none the method written in the last class; nothing where there is no class.
-pub fn method_line(text: &[u8], tables: &mut [u32], at: usize, end: usize) -> u32
+// A field line: its fault, and with none the field added to the last class; nothing where there is no class.
+pub fn field_line(text: &[u8], tables: &mut [u32], at: usize, end: usize) -> u32
+    requires { ⌜ length (now text) ≤ 32768 ⌝ }
+    requires { ⌜ length (now tables) ≡ 8072 ⌝ }
+    ensures { λ r. ⌜ FieldTook (now (text .entry)) (now (tables .entry)) (lineOf (now (text .entry)) at end) r (now (tables .exit)) ⌝ }
+{
+    let stop = least(end, text.len());
+    take_field(text, tables, least(at, stop), stop)
+}
+
+// A method line within the text.
+fn take_method(text: &[u8], tables: &mut [u32], at: usize, end: usize) -> u32
     requires { ⌜ Lent (now text) (now tables) at end ⌝ }
     ensures { λ r. ⌜ MethodTook (now (text .entry)) (now (tables .entry)) (lineOf (now (text .entry)) at end) r (now (tables .exit)) ⌝ }
 {
@@ -249,4 +276,14 @@ pub fn method_line(text: &[u8], tables: &mut [u32], at: usize, end: usize) -> u3
     }
     let class = count - 1;
     add_method(text, tables, class, name_behind(text, at, end, class))
+}
+
+// A method line: its fault, and with none the method written in the last class; nothing where there is no class.
+pub fn method_line(text: &[u8], tables: &mut [u32], at: usize, end: usize) -> u32
+    requires { ⌜ length (now text) ≤ 32768 ⌝ }
+    requires { ⌜ length (now tables) ≡ 8072 ⌝ }
+    ensures { λ r. ⌜ MethodTook (now (text .entry)) (now (tables .entry)) (lineOf (now (text .entry)) at end) r (now (tables .exit)) ⌝ }
+{
+    let stop = least(end, text.len());
+    take_method(text, tables, least(at, stop), stop)
 }

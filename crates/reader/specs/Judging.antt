@@ -24,7 +24,7 @@ use Rattle.reader.specs.Sizes.{statement-size}
 -- The line from `at` to `end` is judged by what is above it and below it, where there is room for a statement.
 module _ (text ws : List ℕ) (at end r : ℕ) (ws′ : List ℕ) where
   abbrev pub TookAs : Form → Type 0
-  TookAs f = Took (libraryOf text ws) (record { form = f; at = at; size = end - at }) f (faultOf (libraryOf text ws) (linesAt text (end + 1)) f) r (libraryOf text ws′)
+  TookAs f = Took (libraryOf text ws) (record { form = f; at = at; size = length (lineOf text at end) }) f (faultOf (libraryOf text ws) (linesAt text (end + 1)) f) r (libraryOf text ws′)
 
   abbrev pub LineTook : Type 0
   LineTook = statementCount ws < 4096 → TookAs (formOf (words (lineOf text at end)))
@@ -44,12 +44,12 @@ module _ (text ws : List ℕ) (at end r : ℕ) (ws′ : List ℕ) where
 
   by-form : (f : Form) → formOf (words (lineOf text at end)) ≡ f → Promised (kindOf f) → statementCount ws < 4096 → TookAs f
   unfolding faultOf add
-  by-form (classLine n ps) e p room = p (record { form = classLine n ps; at = at; size = end - at }) n ps e
-  by-form (fieldLine n) e p room = p (record { form = fieldLine n; at = at; size = end - at }) n e
-  by-form (methodLine n) e p room = p (record { form = methodLine n; at = at; size = end - at }) n e
+  by-form (classLine n ps) e p room = p _ n ps e
+  by-form (fieldLine n) e p room = p _ n e
+  by-form (methodLine n) e p room = p _ n e
   by-form (statementLine s) e p room = p s e room
   by-form endLine e p room = record { number = p .0; known = λ z. ap (libraryOf text) (p .1) }
-  by-form (objectLine n c vs) e p room = p (record { form = objectLine n c vs; at = at; size = end - at }) n c vs e
+  by-form (objectLine n c vs) e p room = p _ n c vs e
   by-form malformed e p room = record { number = p .0; known = λ z. ap (libraryOf text) (p .1) }
 
   pub by-kind : (k : ℕ) → k ≡ kindOf (formOf (words (lineOf text at end))) → Promised k → LineTook
@@ -99,7 +99,7 @@ module _ (text : List ℕ) (at end : ℕ) (h : end ≡ at + before (isByte 10) (
         go (fieldLine n) e = omega arith
         go (methodLine n) e = omega arith
         go (statementLine a) e =
-            let n = length-append (l .statements) (record { statement = a; at = at; size = end - at } ∷ []) in
+            let n = length-append (l .statements) (record { statement = a; at = at; size = length (lineOf text at end) } ∷ []) in
             omega (arith, statement-size (lineOf text at end) a e, line-length text at end (omega arith) (omega arith))
         go endLine e = omega arith
         go (objectLine n c vs) e = omega arith

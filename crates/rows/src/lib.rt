@@ -169,11 +169,11 @@ fn note(row: &mut [u32], place: usize, value: u32)
         return;
     }
     let word = 152 + place / 32;
-    let marks = words::get(row, word);
-    if (marks >> (place % 32)) % 2 == 1 {
+    let noted = words::get(row, word);
+    if (noted >> (place % 32)) % 2 == 1 {
         return;
     }
-    words::put(row, word, marks | (1u32 << (place % 32)));
+    words::put(row, word, noted | (1u32 << (place % 32)));
     words::put(row, 216 + place, value);
 }
 

@@ -1,56 +1,17 @@
--- `statement_line` meets its contract: its words, then the statements of its method say what it deserves, and then its place is kept.
+-- `statement_line` meets its contract: cut to the text, the line has the same bytes.
 use borrow.Author.Needs.{needs}
-use mathlib.Core.Path.{_≡_}
-use lib.ListN.{length}
-use Rattle.bodies.specs.Took.{statement-refused, statement-over, statement-taken}
+use Rattle.bodies.specs.Took.{statement-cut}
 use Rattle.bodies.proofs.statement_line.Statement.{statement}
 use Rattle.bodies.proofs.statement_line.Tie as tie
 
 returns : tie.Need-returns
 returns c =
-    let w = c .before in
-    let a = w .before .before .before .before .before .args in
-    statement-refused (a .text .now) (a .tables .now) (a .at) (a .end) (w .words-fault .result) (w .words-fault .ensures) (c .if1 .taken) _
-
-returns-2 : tie.Need-returns-2
-returns-2 c =
-    let k = c .before .before .before in
-    let i = k .before .before in
-    let w = i .before in
-    let a = w .before .before .before .before .before .args in
-    statement-over (a .text .now) (a .tables .now) (a .at) (a .end) (w .words-fault .result) (w .words-fault .ensures) (i .if1 .left)
-    (k .count-statement .result) (k .count-statement .last .0) (k .count-statement .ensures (a .text .now)) (c .if2 .taken) _
-
-returns-3 : tie.Need-returns-3
-returns-3 c =
-    let p = c .before .before in
-    let j = p .before .before in
-    let k = j .before .before .before in
-    let i = k .before .before in
-    let w = i .before in
-    let z = w .before .before .before .before .before in
-    let a = z .args in
-    let room : length (k .count-statement .last .0) ≡ 8072 = search needs in
-    statement-taken (a .text .now) (a .tables .now) (a .at) (a .end) (w .words-fault .result) (w .words-fault .ensures) (i .if1 .left)
-    (k .count-statement .result) (k .count-statement .last .0) (k .count-statement .ensures (a .text .now)) (j .if2 .left)
-    (record { order = z .pre .order; within = z .pre .within; small = z .pre .small; room = room })
-    (p .put-statement .last .0) (p .put-statement .ensures)
+    let t = c .before .before in
+    let f = t .before .least2 in
+    let s = t .before .before .before .least in
+    let a = t .before .before .before .before .before .before .args in
+    statement-cut (a .text .now) (a .at) (a .end) (f .result) (s .result) (s .ensures) (f .ensures)
+    (a .tables .now) (t .take-statement .result) (t .take-statement .last .1 .0) (t .take-statement .ensures)
 
 pub statement-line-spec : {M : Type 1} → statement M
-statement-line-spec =
-    tie.close
-    (tie.spec
-    (λ c. search needs)
-    (λ c. search needs)
-    (λ c. search needs)
-    (λ c. search needs)
-    (λ c κs. search needs)
-    (λ c. search needs)
-    returns
-    (λ c κs. search needs)
-    (λ c. search needs)
-    returns-2
-    (λ c. search needs)
-    (λ c κs. search needs)
-    (λ c. search needs)
-    returns-3)
+statement-line-spec = tie.close (tie.spec (λ c κs. search needs) (λ c κs. search needs) (λ c κs. search needs) (λ c. search needs) returns)

@@ -1,0 +1,42 @@
+-- What each of the five calls promises, whatever is lent, and where the lent words represent a world of the machine.
+use Prim.Native.Nat.{ℕ, _≤_}
+use mathlib.Core.Path.{_≡_, sym, ap, subst, _∙_}
+use mathlib.Core.List.{List}
+use lib.ListN.{drop}
+use Rattle.model.specs.Vector.{Program}
+use Rattle.model.specs.Service.{World}
+use Rattle.model.specs.Machine.{Call, call, service}
+use Rattle.state.specs.Calls.{number, stateWords, called}
+use Rattle.refine.specs.Rep as Words
+use Rattle.refine.specs.Rep.{Rep}
+use Rattle.refine.specs.Refines.{refines}
+use Rattle.refine.specs.Refusals.{never-unfit}
+use Rattle.slots.specs.declared.Outcome.{Outcome}
+use Rattle.slots.specs.Told.{told, Leaves}
+use Rattle.cishmolaq.specs.Past.{past-kept}
+
+-- A call on a text, state words and values, with its answer and what it left.
+pub record Does (text ws values : List ℕ) (c : Call) (r : Outcome) (ws′ values′ : List ℕ) : Type 0 where
+  -- Whatever is lent, the answer and what is left are the definition's.
+  pub any : Leaves (called text ws values c) r ws′ values′
+  -- What lies past the machine's words is as it was.
+  pub past : drop stateWords ws′ ≡ drop stateWords ws
+  -- Where the words represent a world of the machine, the answer is the model's ..
+  pub says : (p : Program) (w : World (service p)) → Rep text ws values p w → Words.told (told r) ≡ call p w c .0
+  -- .. what is left represents the world after the call ..
+  pub next : (p : Program) (w : World (service p)) → Rep text ws values p w → Rep text ws′ values′ p (call p w c .1)
+  -- .. and 21, 22 and 24 are never given.
+  pub fits : (p : Program) (w : World (service p)) → Rep text ws values p w → (n : ℕ) → told r ≡ number n → 31 ≤ n
+
+-- What keeps to the definition keeps all of it.
+pub promised : (text ws values : List ℕ) (c : Call) (r : Outcome) (ws′ values′ : List ℕ) → Leaves (called text ws values c) r ws′ values′
+    → Does text ws values c r ws′ values′
+promised text ws values c r ws′ values′ h = record {
+  any = h;
+  past = ap (drop stateWords) (h .words-are) ∙ past-kept text ws values c;
+  says = λ p w rep. ap Words.told (h .says) ∙ refines text ws values p w rep c .0;
+  next = λ p w rep.
+      subst (λ (l : List ℕ). Rep text l values′ p (call p w c .1)) (sym (h .words-are))
+      (subst (λ (l : List ℕ). Rep text (called text ws values c .words) l p (call p w c .1)) (sym (h .values-are)) (refines text ws values p w rep c .1));
+  fits = λ p w rep n e. never-unfit text ws values p w rep c n (sym (h .says) ∙ e);
+}

@@ -1,0 +1,63 @@
+-- From what filling and laying the tables give to the answer of `start`, and the state after it.
+use Prim.Native.Nat.{ℕ, _≤_, _<_}
+use mathlib.Core.Path.{_≡_, refl, sym, ap, subst, _∙_}
+use mathlib.Core.List.{List}
+use lib.ListN.{length, drop}
+use borrow.Author.Tests.{lt-ltb, le-ltb, eq-eqb, ne-eqb}
+use Rattle.model.specs.Library.{Library}
+use Rattle.model.specs.Read.{accepted, refused, read, libraryIn, library}
+use Rattle.model.specs.Image.{startingValues}
+use Rattle.model.specs.Vector.{program}
+use Rattle.words.specs.View.{libraryOf}
+use Rattle.image.specs.Sizes.{valueCount}
+use Rattle.state.specs.Calls.{stateWords}
+use Rattle.refine.specs.Rep.{Fresh}
+use Rattle.starting.specs.Started.{Fill}
+use Rattle.starting.specs.Installed.{installed, rest-there, fresh-start}
+use Rattle.cishmolaq.specs.declared.Answer.the-variants.{Done, Refused}
+use Rattle.cishmolaq.specs.Answers.{startAnswer, Begins}
+use Rattle.cishmolaq.specs.Laws.{count-is}
+
+module _ (text values ws : List ℕ) where
+  -- A refused text: its fault, and nothing altered.
+  pub start-refused : (number line : ℕ) → read text ≡ refused number line → Begins text values ws (Refused number line) ws
+  unfolding startAnswer
+  start-refused number line e = record { says = rw e; leaves = refl }
+
+  module _ (tables : List ℕ) (e : read text ≡ accepted (libraryOf text tables)) where
+    library-is : libraryOf text tables ≡ library text
+    unfolding library
+    library-is = sym (ap libraryIn e)
+
+    -- How many values the text has.
+    abbrev many : ℕ
+    many = length (startingValues (libraryOf text tables))
+
+    -- A state that is too short: 21, and nothing altered.
+    pub start-short : length ws < stateWords → Begins text values ws (Refused 21 0) ws
+    unfolding startAnswer
+    start-short h = record { says = rw (e, lt-ltb (length ws) stateWords h); leaves = refl }
+
+    module _ (long : stateWords ≤ length ws) where
+      -- A list of another count: 22, and nothing altered.
+      pub start-other : (length values ≡ valueCount tables → ⊥) → Begins text values ws (Refused 22 0) ws
+      unfolding startAnswer
+      start-other h =
+          let other : length values ≡ many → ⊥ = λ q. h (q ∙ sym (count-is text values tables e)) in
+          record { says = rw (e, le-ltb (length ws) stateWords long, ne-eqb (length values) many other); leaves = refl }
+
+      -- A fresh start in the state's words, and what lies past them as it was.
+      pub start-done : length values ≡ valueCount tables → (filled after : List ℕ) → Fill text tables filled
+          → after ≡ installed filled (drop stateWords ws) → Begins text values ws (Done 0) after
+      unfolding startAnswer
+      start-done h filled after f q =
+          let same : length values ≡ many = h ∙ count-is text values tables e in
+          let new = fresh-start text tables filled values (drop stateWords ws) (f .started e) h in
+          record {
+            says = rw (e, le-ltb (length ws) stateWords long, eq-eqb (length values) many same);
+            leaves = (
+              subst (λ (l : Library). Fresh text after values (program l)) library-is
+                  (subst (λ (l : List ℕ). Fresh text l values (program (libraryOf text tables))) (sym q) new),
+              ap (drop stateWords) q ∙ rest-there filled (drop stateWords ws) (f .size),
+            );
+          }

@@ -1,0 +1,4 @@
+pub mod Asked
+pub mod Clashing
+pub mod Locking
+pub mod Begun

@@ -1,0 +1,66 @@
+-- The bits that a send sets in its row, and that they are the rules' locks.
+use Prim.Native.Nat.{ℕ, _+_, _^_, _<_}
+use mathlib.Core.Path.{_≡_, refl, sym, ap, _∙_}
+use mathlib.Core.Bool.{Bool, true, false, cond}
+use mathlib.Core.List.{List}
+use lib.ListN.{getD, set}
+use lib.Seq.{set-getD}
+use lib.Bits.{bitOr, or-zero-r}
+use lib.Dec.{eqb, ltb}
+use borrow.Author.Tests.{lt-ltb}
+use Rattle.state.specs.Request.{Wanted, placeIn, concerns, withLock, domainLock, locked}
+use Rattle.locks.specs.Clashing.{domainPlace, concerned}
+
+-- The mask of the method at a place.
+unfoldable pub placeBit : ℕ → ℕ
+placeBit k = cond (ltb k 32) (2 ^ k) 0
+
+-- The bit of a domain's lock on class d; 0 where the send does not lock it.
+unfoldable pub domainBit : List ℕ → List ℕ → Wanted → ℕ → ℕ
+unfolding concerns placeIn
+domainBit text tables q d = cond (concerns text tables q d) (2 ^ placeIn text tables q d) 0
+
+-- The row with those bits added to word i.
+abbrev pub withBits : List ℕ → ℕ → ℕ → List ℕ
+withBits row i bits = set row i (bitOr (getD row i 0) bits)
+
+-- The row with the locks of a send to an object (kind 0) or to a class's own objects.
+unfoldable pub lockedTarget : Wanted → List ℕ → List ℕ
+unfolding placeBit
+lockedTarget q row =
+    let bits = placeBit (q .place) in
+    cond (eqb (q .kind) 0) (withBits (withBits row (56 + q .number) bits) (120 + q .class) bits) (withBits row (136 + q .class) bits)
+
+no-bits : (row : List ℕ) (i : ℕ) → row ≡ withBits row i 0
+no-bits row i = sym (ap (set row i) (or-zero-r (getD row i 0)) ∙ set-getD row i 0)
+
+pub place-bit : (k : ℕ) → k < 32 → placeBit k ≡ 2 ^ k
+unfolding placeBit
+place-bit k h = rw (lt-ltb k 32 h)
+
+module _ (text tables : List ℕ) (q : Wanted) (d : ℕ) where
+  pub bit-of-place : placeBit (domainPlace text tables q d) ≡ domainBit text tables q d
+  unfolding domainPlace domainBit placeBit
+  bit-of-place = side (concerns text tables q d) refl
+    where
+      side : (t : Bool) → concerns text tables q d ≡ t → placeBit (cond t (placeIn text tables q d) 32) ≡ cond t (2 ^ placeIn text tables q d) 0
+      side true t = place-bit (placeIn text tables q d) (concerned text tables q d t)
+      side false t = refl
+
+  -- 01, locks of a domain: "(M, true) on each class in it, M being the method of that name in that class".
+  pub domain-lock : (row : List ℕ) → domainLock text tables q row d ≡ set row (136 + d) (bitOr (getD row (136 + d) 0) (domainBit text tables q d))
+  unfolding domainBit
+  domain-lock row = side (concerns text tables q d)
+    where
+      side : (t : Bool) → cond t (withLock row (136 + d) (placeIn text tables q d)) row ≡ withBits row (136 + d) (cond t (2 ^ placeIn text tables q d) 0)
+      side true = refl
+      side false = no-bits row (136 + d)
+
+module _ (text tables : List ℕ) (q : Wanted) (row : List ℕ) (h : q .place < 32) where
+  pub locked-object : eqb (q .kind) 0 ≡ true → locked text tables q row ≡ lockedTarget q row
+  unfolding locked lockedTarget
+  locked-object e = rw (e, place-bit (q .place) h)
+
+  pub locked-class : eqb (q .kind) 0 ≡ false → eqb (q .kind) 1 ≡ true → locked text tables q row ≡ lockedTarget q row
+  unfolding locked lockedTarget
+  locked-class e k = rw (e, k, place-bit (q .place) h)

@@ -1,0 +1,30 @@
+-- `send_class` meets its contract: the class is there.
+use borrow.Author.Needs.{needs}
+use mathlib.Core.Path.{refl}
+use Rattle.slots.specs.Phases.{leaves-as}
+use Rattle.sends.specs.Sent.{class-none, class-there}
+use Rattle.sends.proofs.send_class.Statement.{statement}
+use Rattle.sends.proofs.send_class.Tie as tie
+
+returns : tie.Need-returns
+returns c = λ values. leaves-as (class-none _ _ values _ _ _ _ _ _ (c .before .class-count .ensures) (c .if1 .taken)) (record { says = refl; words-are = refl; values-are = refl })
+
+returns-2 : tie.Need-returns-2
+returns-2 c =
+    let k = c .before .before in
+    let i = k .before .before in
+    λ values. leaves-as (class-there _ _ values _ _ _ _ _ _ (i .before .class-count .ensures) (i .if1 .left)) (k .send-to .ensures values)
+
+pub send-class-spec : {M : Type 1} → statement M
+send-class-spec =
+    tie.close
+    (tie.spec
+    (λ c. search needs)
+    (λ c. search needs)
+    (λ c. search needs)
+    (λ c κs. search needs)
+    (λ c. search needs)
+    returns
+    (λ c κs. search needs)
+    (λ c. search needs)
+    returns-2)

@@ -1,0 +1,3 @@
+pub mod Aimed
+pub mod Way
+pub mod Sent

@@ -1,0 +1,122 @@
+-- A call stage by stage: the numbers that every call gives first, then what it does by its slot's phase.
+use Prim.Native.Nat.{ℕ, zero, suc, _+_, _*_, _≤_, _<_}
+use native.Mathlib.Omega.{arith}
+use mathlib.Core.Path.{_≡_, refl, sym, ap, subst, _∙_}
+use mathlib.Core.Bool.{Bool, true, false, not, cond, _&&_, _||_}
+use mathlib.Core.List.{List}
+use lib.ListN.{length, getD}
+use lib.Seq.{getD-take, getD-drop}
+use lib.Dec.{eqb, leb, ltb, eqb·suc-zero}
+use lib.ListN.{drop}
+use borrow.Author.Tests.{eq-eqb, ne-eqb, leb-false, lt-ltb, le-ltb, lt-leb, le-leb, eqb-true, eqb-false}
+use Rattle.model.specs.Service.{Call}
+use Rattle.model.specs.Machine.{Request}
+use Rattle.state.specs.Calls.{After, stateWords, mark, rowStart, rowOf, misfitOf, refused, onClosed, onIdle, onRunning, slotIn, byPhase, called}
+use Rattle.refine.specs.State.{fit-is}
+use Rattle.slots.specs.declared.Outcome.{Outcome}
+use Rattle.slots.specs.Told.{Leaves}
+use Rattle.slots.specs.Lent.{Within}
+
+-- 21, 22, 24, then 31; 0 where there is none of them.
+unfoldable pub firstRefusal : List ℕ → List ℕ → List ℕ → ℕ → ℕ
+unfolding misfitOf
+firstRefusal text ws values s = let misfit = misfitOf text ws values in cond (not (eqb misfit 0)) misfit (cond (leb 8 s) 31 0)
+
+-- ---- 21, 22, 24
+
+module _ (text ws values : List ℕ) where
+  pub misfit-short : length ws < stateWords → 21 ≡ misfitOf text ws values
+  unfolding misfitOf
+  misfit-short h = rw (lt-ltb (length ws) stateWords h)
+
+  module _ (l : stateWords ≤ length ws) (n : ℕ) (e : n ≡ getD ws 3 0) where
+    pub misfit-values : (not (eqb n (length values)) || ltb 2048 (length values)) ≡ true → 22 ≡ misfitOf text ws values
+    unfolding misfitOf
+    misfit-values t = rw (le-ltb (length ws) stateWords l, ← e, t)
+
+    module _ (z : (not (eqb n (length values)) || ltb 2048 (length values)) ≡ false) (m t : ℕ) (p : m ≡ getD ws 5 0) (q : t ≡ getD ws 4 0) where
+      pub misfit-none : (eqb m mark && eqb t (length text)) ≡ true → 0 ≡ misfitOf text ws values
+      unfolding misfitOf
+      misfit-none b = rw (le-ltb (length ws) stateWords l, ← e, z, ← p, ← q, b)
+
+      pub misfit-other : (eqb m mark && eqb t (length text)) ≡ false → 24 ≡ misfitOf text ws values
+      unfolding misfitOf
+      misfit-other b = rw (le-ltb (length ws) stateWords l, ← e, z, ← p, ← q, b)
+
+-- ---- 31
+
+module _ (text ws values : List ℕ) (s m : ℕ) (e : m ≡ misfitOf text ws values) where
+  pub first-misfit : (m ≡ 0 → ⊥) → m ≡ firstRefusal text ws values s
+  unfolding firstRefusal
+  first-misfit z = rw (← e, ne-eqb m 0 z)
+
+  pub first-slot : m ≡ 0 → 8 ≤ s → 31 ≡ firstRefusal text ws values s
+  unfolding firstRefusal
+  first-slot z h = rw (← e, z, le-leb 8 s h)
+
+  pub first-none : m ≡ 0 → s < 8 → 0 ≡ firstRefusal text ws values s
+  unfolding firstRefusal
+  first-none z h = rw (← e, z, lt-leb 8 s h)
+
+-- ---- by the phase
+
+module _ (text ws values : List ℕ) (s n : ℕ) (e : n ≡ firstRefusal text ws values s) (z : n ≡ 0) where
+  none-first : (misfitOf text ws values ≡ 0) × (s < 8)
+  unfolding firstRefusal
+  none-first = go (misfitOf text ws values) refl (leb 8 s) refl
+    where
+      go : (m : ℕ) → misfitOf text ws values ≡ m → (b : Bool) → leb 8 s ≡ b → (misfitOf text ws values ≡ 0) × (s < 8)
+      go zero p false q = (p, leb-false 8 s q)
+      go zero p true q =
+          let n31 : firstRefusal text ws values s ≡ 31 = rw (p, q) in
+          absurd (omega arith)
+      go (suc m) p b q =
+          let other : firstRefusal text ws values s ≡ suc m = rw (p, eqb·suc-zero m) in
+          absurd (omega arith)
+
+  -- Past the first numbers there is the slot, with its row.
+  pub within : Within ws s
+  within = record { slot = none-first .1; long = fit-is text ws values (none-first .0) .long }
+
+module _ (text ws values : List ℕ) (c : Call Request) (n : ℕ) (e : n ≡ firstRefusal text ws values (slotIn c)) where
+  pub refused-first : (n ≡ 0 → ⊥) → refused ws values n ≡ called text ws values c
+  unfolding called firstRefusal
+  refused-first z = go (eqb (misfitOf text ws values) 0) refl (leb 8 (slotIn c)) refl
+    where
+      go : (a : Bool) → eqb (misfitOf text ws values) 0 ≡ a → (b : Bool) → leb 8 (slotIn c) ≡ b → refused ws values n ≡ called text ws values c
+      go false p b q = rw p (ap (refused ws values) (e ∙ rw p))
+      go true p true q = rw (p, q) (ap (refused ws values) (e ∙ rw (p, q)))
+      go true p false q = absurd (z (e ∙ rw (p, q)))
+
+  module _ (z : n ≡ 0) (f : ℕ) (q : f ≡ getD (rowOf ws (slotIn c)) 0 0) where
+    by-phase : byPhase text ws values c f ≡ called text ws values c
+    unfolding called
+    by-phase = let h = none-first text ws values (slotIn c) n e z in rw (h .0, lt-leb 8 (slotIn c) (h .1), q)
+
+    pub when-closed : f ≡ 0 → onClosed ws values c ≡ called text ws values c
+    when-closed o = rw (eq-eqb f 0 o) at by-phase
+
+    pub when-idle : f ≡ 1 → onIdle text ws values c ≡ called text ws values c
+    when-idle o = rw o at by-phase
+
+    pub when-running : (f ≡ 0 → ⊥) → (f ≡ 1 → ⊥) → onRunning text ws values c ≡ called text ws values c
+    when-running a b = rw (ne-eqb f 0 a, ne-eqb f 1 b) at by-phase
+
+    -- What is the same whether a message runs or not.
+    pub when-open : (x : After) → x ≡ onIdle text ws values c → x ≡ onRunning text ws values c → (f ≡ 0 → ⊥) → x ≡ called text ws values c
+    when-open x i r a = go (eqb f 1) refl
+      where
+        go : (b : Bool) → eqb f 1 ≡ b → x ≡ called text ws values c
+        go true t = i ∙ when-idle (eqb-true f 1 t)
+        go false t = r ∙ when-running a (eqb-false f 1 t)
+
+-- The slot's phase is the first word of its row.
+pub phase-is : (ws : List ℕ) (s : ℕ) → getD ws (8072 + s * 2264) 0 ≡ getD (rowOf ws s) 0 0
+unfolding rowOf
+phase-is ws s =
+    let e : rowStart s + 0 ≡ rowStart s = omega arith in
+    sym (getD-take 2264 (drop (rowStart s) ws) 0 0 (omega arith) ∙ getD-drop (rowStart s) ws 0 0 ∙ ap (λ (i : ℕ). getD ws i 0) e)
+
+-- What leaves one result leaves an equal one.
+pub leaves-as : {x y : After} {r : Outcome} {ws values : List ℕ} → x ≡ y → Leaves x r ws values → Leaves y r ws values
+leaves-as {x} {y} {r} {ws} {values} e h = subst (λ (a : After). Leaves a r ws values) e h

@@ -1,0 +1,22 @@
+-- What the answers of this crate say, by 01's numbers, and what a call leaves.
+use Prim.Native.Nat.{ℕ}
+use mathlib.Core.Path.{_≡_}
+use mathlib.Core.List.{List}
+use Rattle.state.specs.Calls.{Answered, After, done, goes, halt, answer, number, held}
+use Rattle.slots.specs.declared.Outcome.{Outcome}
+use Rattle.slots.specs.declared.Outcome.the-variants.{Done, Going, Answer, Refused, Held, Stopped}
+
+-- Refused: 21 to 36. Held: 40, with the lowest clashing slot. Stopped: 41.
+abbrev pub told : Outcome → Answered
+told Done = done
+told Going = goes
+told (Answer v) = answer v
+told (Refused n) = number n
+told (Held t) = held t
+told Stopped = halt
+
+-- The answer, the words and the values after a call are those of the definition.
+pub record Leaves (x : After) (r : Outcome) (words values : List ℕ) : Type 0 where
+  pub says : told r ≡ x .answered
+  pub words-are : words ≡ x .words
+  pub values-are : values ≡ x .values

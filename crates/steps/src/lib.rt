@@ -1,0 +1,54 @@
+// The call step: the next statement of a slot's message, or the end of a body.
+use rows::Said;
+use slots::Outcome;
+ghost use mathlib.Core.Path.{_≡_};
+ghost use Rattle.model.specs.Service.{step};
+ghost use Rattle.state.specs.Row.{carried};
+ghost use Rattle.state.specs.Turn.{decided};
+ghost use Rattle.state.specs.Calls.{tablesOf, rowOf, toldBy, laid, called};
+ghost use Rattle.rows.specs.Carried.{said};
+ghost use Rattle.slots.specs.Told.{told, Leaves};
+ghost use Rattle.slots.specs.Lent.{Within};
+
+// What a step says, as a call's answer.
+fn outcome_of(step: Said) -> Outcome
+    ensures { λ r. ⌜ told r ≡ toldBy (said step) ⌝ }
+{
+    match step {
+        Said::Unfit => Outcome::Refused(24),
+        Said::Going => Outcome::Going,
+        Said::Halted => Outcome::Stopped,
+        Said::Answered(value) => Outcome::Answer(value),
+    }
+}
+
+// The next step of a slot's message: decided, then carried out.
+fn advance(text: &[u8], state: &mut [u32], values: &mut [u32], slot: u32) -> Outcome
+    requires { ⌜ Within (now state) slot ⌝ }
+    ensures { λ r. ⌜ Leaves (laid (now (state .entry)) slot (carried (rowOf (now (state .entry)) slot) (now (values .entry))
+        (decided (now (text .entry)) (tablesOf (now (state .entry))) (rowOf (now (state .entry)) slot) (now (values .entry))))) r (now (state .exit)) (now (values .exit)) ⌝ }
+{
+    let start = 8072 + slot as usize * 2264;
+    let end = start + 2264;
+    let turn = turns::decide(text, &state[0..8072], &state[start..end], values);
+    let said = rows::carry(&mut state[start..end], values, turn);
+    outcome_of(said)
+}
+
+// Runs one statement of a slot's message, or ends a body.
+pub fn step(text: &[u8], state: &mut [u32], values: &mut [u32], slot: u32) -> Outcome
+    ensures { λ r. ⌜ Leaves (called (now (text .entry)) (now (state .entry)) (now (values .entry)) (step slot)) r (now (state .exit)) (now (values .exit)) ⌝ }
+{
+    let number = slots::refusal(text, state, values, slot);
+    if number != 0 {
+        return Outcome::Refused(number);
+    }
+    let phase = slots::phase_of(state, slot);
+    if phase == 0 {
+        return Outcome::Refused(32);
+    }
+    if phase == 1 {
+        return Outcome::Refused(35);
+    }
+    advance(text, state, values, slot)
+}
