@@ -206,16 +206,9 @@ pub fn send(
 ) -> Outcome
     ensures { λ r. ⌜ Leaves (called (now (text .entry)) (now (state .entry)) (now (values .entry)) (send slot (to (aimed target) place argument))) r (now (state .exit)) (now (values .entry)) ⌝ }
 {
-    let number = slots::refusal(text, state, values, slot);
+    let number = slots::idle_refusal(text, state, values, slot);
     if number != 0 {
         return Outcome::Refused(number);
-    }
-    let phase = slots::phase_of(state, slot);
-    if phase == 0 {
-        return Outcome::Refused(32);
-    }
-    if phase != 1 {
-        return Outcome::Refused(34);
     }
     match target {
         Target::Object(object) => send_object(text, state, slot, object, place, argument),

@@ -9,7 +9,7 @@ ghost use Rattle.state.specs.Row.{noteAt, blank};
 ghost use Rattle.state.specs.Calls.{rowOf, withRow, misfitOf, called};
 ghost use Rattle.slots.specs.Told.{Leaves};
 ghost use Rattle.slots.specs.Lent.{Within};
-ghost use Rattle.slots.specs.Phases.{firstRefusal};
+ghost use Rattle.slots.specs.Phases.{firstRefusal, idleRefusal};
 
 // What a call answers: done (a send: granted), going or the message's answer; a number 21 to 36; 40 with the lowest
 // clashing slot; 41.
@@ -104,20 +104,31 @@ pub fn begin(text: &[u8], state: &mut [u32], values: &[u32], slot: u32) -> Outco
     Outcome::Done
 }
 
+// What commit and send test first: the slot is open, and no message runs. 21 to 31, then 32, 34; else 0.
+pub fn idle_refusal(text: &[u8], state: &[u32], values: &[u32], slot: u32) -> u32
+    ensures { λ r. ⌜ r ≡ idleRefusal (now (text .entry)) (now (state .entry)) (now (values .entry)) slot ⌝ }
+{
+    let number = refusal(text, state, values, slot);
+    if number != 0 {
+        return number;
+    }
+    let phase = phase_of(state, slot);
+    if phase == 0 {
+        return 32;
+    }
+    if phase != 1 {
+        return 34;
+    }
+    0
+}
+
 // Frees a slot and leaves the values.
 pub fn commit(text: &[u8], state: &mut [u32], values: &[u32], slot: u32) -> Outcome
     ensures { λ r. ⌜ Leaves (called (now (text .entry)) (now (state .entry)) (now (values .entry)) (commit slot)) r (now (state .exit)) (now (values .entry)) ⌝ }
 {
-    let number = refusal(text, state, values, slot);
-    if number != 0 {
-        return Outcome::Refused(number);
-    }
-    let phase = phase_of(state, slot);
-    if phase == 0 {
-        return Outcome::Refused(32);
-    }
-    if phase != 1 {
-        return Outcome::Refused(34);
+    let refused = idle_refusal(text, state, values, slot);
+    if refused != 0 {
+        return Outcome::Refused(refused);
     }
     free(state, slot);
     Outcome::Done

@@ -1,37 +1,24 @@
 -- `commit` meets its contract: the tests in the order of the numbers, then the slot is free.
 use borrow.Author.Needs.{needs}
 use mathlib.Core.Path.{refl}
-use Rattle.slots.specs.Phases.{within, refused-first, when-closed, when-idle, when-running, leaves-as}
+use Rattle.slots.specs.Phases.{idle-refused, idle-within, idle-on, leaves-as}
 use Rattle.slots.proofs.commit.Statement.{statement}
 use Rattle.slots.proofs.commit.Tie as tie
+use Rattle.model.specs.Service.{commit}
 
 returns : tie.Need-returns
-returns c = leaves-as (refused-first _ _ _ _ _ (c .before .refusal .ensures) (c .if1 .taken)) (record { says = refl; words-are = refl; values-are = refl })
-
-returns-2 : tie.Need-returns-2
-returns-2 c =
-    let f = c .before in
-    let e = f .before .before in
-    leaves-as (when-closed _ _ _ _ _ (e .before .refusal .ensures) (e .if1 .left) _ (f .phase-of .ensures) (c .if2 .taken)) (record { says = refl; words-are = refl; values-are = refl })
-
-returns-3 : tie.Need-returns-3
-returns-3 c =
-    let f = c .before .before in
-    let e = f .before .before in
-    leaves-as (when-running _ _ _ _ _ (e .before .refusal .ensures) (e .if1 .left) _ (f .phase-of .ensures) (c .before .if2 .left) (c .if3 .taken)) (record { says = refl; words-are = refl; values-are = refl })
+returns c = leaves-as (idle-refused _ _ _ _ _ (c .before .idle-refusal .ensures) refl refl (c .if1 .taken)) (record { says = refl; words-are = refl; values-are = refl })
 
 free-requires : tie.Need-free-requires
 free-requires c κs =
-    let e = c .before .before .before .before .before in
-    within _ _ _ _ _ (e .before .refusal .ensures) (e .if1 .left)
+    let e = c .before in
+    idle-within _ _ _ (commit _) _ (e .before .idle-refusal .ensures) refl refl (e .if1 .left)
 
-returns-4 : tie.Need-returns-4
-returns-4 c =
+returns-2 : tie.Need-returns-2
+returns-2 c =
     let l = c .before .before in
-    let i = l .before .before in
-    let f = i .before .before in
-    let e = f .before .before in
-    leaves-as (when-idle _ _ _ _ _ (e .before .refusal .ensures) (e .if1 .left) _ (f .phase-of .ensures) (i .if3 .left))
+    let e = l .before .before in
+    leaves-as (idle-on _ _ _ _ _ (e .before .idle-refusal .ensures) refl refl (e .if1 .left))
     (record { says = refl; words-are = l .free .ensures; values-are = refl })
 
 pub commit-spec : {M : Type 1} → statement M
@@ -41,11 +28,6 @@ commit-spec =
     (λ c κs. search needs)
     (λ c. search needs)
     returns
-    (λ c κs. search needs)
-    (λ c. search needs)
-    returns-2
-    (λ c. search needs)
-    returns-3
     free-requires
     (λ c. search needs)
-    returns-4)
+    returns-2)
