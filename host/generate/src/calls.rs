@@ -1,26 +1,151 @@
-//! Call lists on a library: sends that meet, stops, aborts and commits are all frequent.
+//! Call lists on a library: clashes, stops, aborts and commits are all frequent.
 
-use crate::Random;
-use reference::machine::{Call, Target};
+use crate::text::{text, LARGE, MIDDLE, SMALL};
+use crate::{limits, Random};
+use reference::machine::{Answer, Call, Target};
 use reference::text::Library;
 
-/// A call; most are in range, some name what is not there.
-pub fn call(random: &mut Random, library: &Library) -> Call {
-    let slot = if random.one_in(40) { random.below(20) as u32 } else { random.below(4) as u32 };
-    match random.below(20) {
-        0 | 1 => Call::Begin(slot),
-        2 => Call::Commit(slot),
-        3 if random.one_in(2) => Call::Abort(slot),
-        4..=7 => {
-            let number = |random: &mut Random, n: usize| if random.one_in(15) { n as u32 } else { random.below(n) as u32 };
-            let target = match random.below(3) {
-                0 => Target::Object(number(random, library.objects.len())),
-                1 => Target::Class(number(random, library.classes.len())),
-                _ => Target::Domain(number(random, library.classes.len())),
-            };
-            let method = number(random, 4);
-            Call::Send { slot, target, method, argument: random.edge() }
+/// A text that has something to send to: objects and methods, but for a few.
+pub fn text_to_call(random: &mut Random) -> Vec<u8> {
+    if random.one_in(60) {
+        return limits::message_of(1_021 + random.below(5));
+    }
+    let size = match random.below(60) {
+        0 => LARGE,
+        1..=6 => MIDDLE,
+        _ => SMALL,
+    };
+    let any = random.one_in(50);
+    loop {
+        let found = text(random, size);
+        if any || lively(&found) {
+            return found;
         }
-        _ => Call::Step(slot),
+    }
+}
+
+/// The text sets a field in three places, and has at least two objects.
+fn lively(text: &[u8]) -> bool {
+    let lines = |word: &[u8]| text.split(|&b| b == b'\n').filter(|l| l.starts_with(word)).count();
+    lines(b"set ") > 2 && lines(b"object ") > 1
+}
+
+/// A list of values to start on: the text's own, or any.
+pub fn values_for(random: &mut Random, library: &Library) -> Vec<u32> {
+    let own = library.starting_values();
+    if random.one_in(2) {
+        return own;
+    }
+    own.iter().map(|_| random.edge()).collect()
+}
+
+#[derive(Clone, Copy, PartialEq)]
+enum Phase {
+    Closed,
+    Open,
+    Running,
+}
+
+/// Who makes a list's calls one by one: it is told each answer, and so knows which slots are open.
+pub struct Caller {
+    phases: [Phase; 8],
+    /// How many slots it likes to use.
+    slots: usize,
+    /// How many steps it makes for each other call.
+    patience: usize,
+    /// The targets that it likes.
+    liked: Vec<Target>,
+}
+
+fn any_target(random: &mut Random, library: &Library) -> Target {
+    match random.below(5) {
+        0 => Target::Class(random.below(library.classes.len()) as u32),
+        1 => Target::Domain(random.below(library.classes.len()) as u32),
+        _ => Target::Object(random.below(library.objects.len()) as u32),
+    }
+}
+
+/// How many methods the class of a target has; 0 where there is none.
+fn methods(library: &Library, target: Target) -> usize {
+    let class = match target {
+        Target::Object(o) => library.objects.get(o as usize).map(|o| &o.class),
+        Target::Class(c) | Target::Domain(c) => library.classes.get(c as usize).map(|c| &c.name),
+    };
+    class.map_or(0, |c| library.methods(c).len())
+}
+
+/// A target that has methods, if that is not hard to find.
+fn target(random: &mut Random, library: &Library) -> Target {
+    let tries: Vec<Target> = (0..6).map(|_| any_target(random, library)).collect();
+    tries.iter().copied().find(|&t| methods(library, t) > 0).unwrap_or(tries[0])
+}
+
+impl Caller {
+    pub fn new(random: &mut Random, library: &Library) -> Caller {
+        let liked = (0..1 + random.below(4)).map(|_| target(random, library)).collect();
+        let slots = if random.one_in(4) { 8 } else { 2 + random.below(3) };
+        Caller { phases: [Phase::Closed; 8], slots, patience: 2 + random.below(12), liked }
+    }
+
+    /// Learns what a call was answered.
+    pub fn told(&mut self, call: Call, answer: Answer) {
+        let (slot, phase) = match (call, answer) {
+            (Call::Begin(s), Answer::Done) | (Call::Step(s), Answer::Answer(_)) => (s, Phase::Open),
+            (Call::Send { slot, .. }, Answer::Done) => (slot, Phase::Running),
+            (Call::Commit(s) | Call::Abort(s), Answer::Done) | (Call::Step(s), Answer::Stopped) => (s, Phase::Closed),
+            // On altered memory a slot may be open although nobody opened it.
+            (Call::Begin(s), Answer::Refused(33)) if self.phases[s as usize] == Phase::Closed => (s, Phase::Open),
+            (Call::Send { slot: s, .. } | Call::Commit(s), Answer::Refused(34)) => (s, Phase::Running),
+            (Call::Step(s), Answer::Refused(35)) => (s, Phase::Open),
+            _ => return,
+        };
+        self.phases[slot as usize] = phase;
+    }
+
+    fn send(&self, random: &mut Random, library: &Library, slot: u32) -> Call {
+        let target = if random.one_in(3) { target(random, library) } else { *random.pick(&self.liked) };
+        Call::Send { slot, target, method: random.below(methods(library, target)) as u32, argument: random.edge() }
+    }
+
+    /// A call without a thought: a slot that may not be there, a send that may name nothing.
+    fn any(&self, random: &mut Random, library: &Library) -> Call {
+        let slot = if random.one_in(3) { *random.pick(&[8, 9, 31, 32, u32::MAX]) } else { random.below(8) as u32 };
+        match random.below(6) {
+            0 => Call::Begin(slot),
+            1 => Call::Step(slot),
+            2 => Call::Commit(slot),
+            3 => Call::Abort(slot),
+            _ => {
+                let number = |random: &mut Random, n: usize| if random.one_in(3) { random.edge() } else { random.below(n + 1) as u32 };
+                let target = match random.below(3) {
+                    0 => Target::Object(number(random, library.objects.len())),
+                    1 => Target::Class(number(random, library.classes.len())),
+                    _ => Target::Domain(number(random, library.classes.len())),
+                };
+                let slot = if random.one_in(8) { slot } else { random.below(self.slots) as u32 };
+                Call::Send { slot, target, method: number(random, 4), argument: random.edge() }
+            }
+        }
+    }
+
+    pub fn next(&self, random: &mut Random, library: &Library) -> Call {
+        if random.one_in(20) {
+            return self.any(random, library);
+        }
+        let running: Vec<u32> = (0..8).filter(|&s| self.phases[s as usize] == Phase::Running).collect();
+        if !running.is_empty() && random.below(self.patience) > 0 {
+            return Call::Step(*random.pick(&running));
+        }
+        let slot = random.below(self.slots) as u32;
+        match self.phases[slot as usize] {
+            Phase::Closed => Call::Begin(slot),
+            Phase::Running if random.one_in(4) => Call::Abort(slot),
+            Phase::Running => Call::Step(slot),
+            Phase::Open => match random.below(8) {
+                0 | 1 => Call::Commit(slot),
+                2 => Call::Abort(slot),
+                _ => self.send(random, library, slot),
+            },
+        }
     }
 }

@@ -137,6 +137,38 @@ fn parent_added(random: &mut Random, mut rows: Vec<Vec<u8>>) -> Vec<u8> {
     rows.concat()
 }
 
+/// The text with a fault that chance seldom meets: 15, 16, 17 or 11.
+pub fn aimed(random: &mut Random, text: &[u8]) -> Vec<u8> {
+    let mut rows = lines(text);
+    let at = |word: &[u8]| (0..rows.len()).filter(|&k| rows[k].starts_with(word)).collect::<Vec<usize>>();
+    let (classes, methods, ends, objects) = (at(b"class "), at(b"method "), at(b"end\n"), at(b"object "));
+    let below_classes = objects.first().copied().unwrap_or(rows.len());
+    let numbered = |line: &str| (0..65).map(|k| format!("{line}{k}\n")).collect::<String>();
+    match random.below(7) {
+        0 => rows.insert(below_classes, b"class yy\nfield f\nclass yz\nfield f\nclass zz : yy yz\n".to_vec()),
+        1 if !ends.is_empty() => {
+            let method = *random.pick(&methods);
+            let class = classes.iter().rev().find(|&&c| c < method).expect("a class above its methods");
+            let line = format!("send {}.{} to self 1\n", second(&rows[*class]), second(&rows[method]));
+            rows.insert(*random.pick(&ends), line.into_bytes());
+        }
+        2 if !methods.is_empty() => rows.insert(random.pick(&methods) + 1, b"reply 1\n".repeat(33)),
+        3 if !classes.is_empty() => rows.insert(random.pick(&classes) + 1, numbered("field zz").into_bytes()),
+        4 if !objects.is_empty() => {
+            let k = *random.pick(&objects);
+            rows[k] = [&rows[k][..rows[k].len() - 1], &b" 1".repeat(33), b"\n"].concat();
+        }
+        5 => rows.insert(below_classes, numbered("class zz").into_bytes()),
+        _ => rows.push(numbered("object zz").repeat(48).into_bytes()),
+    }
+    rows.concat()
+}
+
+/// The second word of a line.
+fn second(row: &[u8]) -> String {
+    String::from_utf8_lossy(&split(row)[1]).into_owned()
+}
+
 /// A text of random bytes, with a liking for the text's own.
 pub fn noise(random: &mut Random) -> Vec<u8> {
     (0..random.below(60)).map(|_| *random.pick(b"class fieldmethodend\n\n:abc 01+\0\xff")).collect()

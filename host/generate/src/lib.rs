@@ -2,6 +2,7 @@
 
 pub mod calls;
 pub mod damage;
+pub mod limits;
 pub mod text;
 
 /// A small generator of numbers (xorshift), so that a seed gives the same run everywhere.

@@ -1,9 +1,10 @@
 //! What the generator calls valid is accepted by the second implementation, and its lists keep demand 3 there.
 
+use generate::calls::{text_to_call, Caller};
 use generate::text::{text, LARGE, MIDDLE, SMALL};
-use generate::{calls, damage, Random};
+use generate::{damage, limits, Random};
 use reference::course::Course;
-use reference::machine::{Call, Machine};
+use reference::machine::{Answer, Call, Machine, Target};
 
 #[test]
 fn texts_are_valid() {
@@ -15,6 +16,21 @@ fn texts_are_valid() {
         if let Err(fault) = reference::read(&text) {
             panic!("seed {seed}: {fault:?}\n{}", String::from_utf8_lossy(&text));
         }
+    }
+}
+
+#[test]
+fn limits_are_limits() {
+    for limit in limits::limits() {
+        assert_eq!(reference::read(&limit.at).err(), None, "at the limit: {}", limit.name);
+        assert_eq!(reference::read(&limit.past).err().map(|f| f.number), Some(limit.number), "past the limit: {}", limit.name);
+    }
+    for n in (200..32_768).step_by(977).chain(32_760..=32_768) {
+        let text = limits::of_length(n);
+        assert_eq!((text.len(), reference::read(&text).err()), (n, None));
+    }
+    for text in [limits::most_statements(), limits::widest()] {
+        assert_eq!((text.len() <= 32_768, reference::read(&text).err()), (true, None));
     }
 }
 
@@ -34,18 +50,32 @@ fn damage_meets_every_number() {
 }
 
 #[test]
+fn messages_are_as_long_as_named() {
+    for steps in 1_021..=1_025 {
+        let library = reference::read(&limits::message_of(steps)).unwrap();
+        let mut machine = Machine::start(&library, &library.starting_values()).unwrap();
+        machine.call(Call::Begin(0));
+        machine.call(Call::Send { slot: 0, target: Target::Object(0), method: 0, argument: 0 });
+        let going = (0..).take_while(|_| machine.call(Call::Step(0)) == Answer::Going).count();
+        assert_eq!(going + 1, steps.min(1_024), "{steps} steps");
+        assert_eq!(machine.idle(), steps > 1_024, "{steps} steps");
+    }
+}
+
+#[test]
 fn lists_keep_the_commit_order() {
     for seed in 0..400 {
-        let mut random = Random::new(seed + 1_000_000);
-        let library = reference::read(&text(&mut random, [SMALL, MIDDLE][seed as usize % 2])).unwrap();
+        let mut random = Random::new(seed + 2_000_000);
+        let library = reference::read(&text_to_call(&mut random)).unwrap();
         let start = library.starting_values();
         let mut machine = Machine::start(&library, &start).unwrap();
         let mut course = Course::start(&library, &start);
-        let closing = (0..8).map(Call::Abort).collect::<Vec<Call>>();
-        let list: Vec<Call> = (0..300).map(|_| calls::call(&mut random, &library)).chain(closing).collect();
-        for call in list {
+        let mut caller = Caller::new(&mut random, &library);
+        for k in 0..308 {
+            let call = if k < 300 { caller.next(&mut random, &library) } else { Call::Abort(k - 300) };
             let answer = machine.call(call);
             course.feed(call, answer);
+            caller.told(call, answer);
         }
         assert!(machine.idle());
         assert_eq!(machine.values(), course.values(), "seed {seed}");

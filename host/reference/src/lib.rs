@@ -3,6 +3,7 @@
 
 pub mod course;
 pub mod image;
+pub mod lines;
 pub mod machine;
 pub mod syntax;
 pub mod text;

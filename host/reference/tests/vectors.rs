@@ -2,8 +2,9 @@
 
 use reference::course::Course;
 use reference::image::{image, tables};
-use reference::machine::{Answer, Call, Machine, Target};
-use reference::text::{read, Library};
+use reference::lines::{call, objects, traced};
+use reference::machine::{Call, Machine};
+use reference::text::read;
 use std::path::PathBuf;
 
 fn file(name: &str) -> Vec<u8> {
@@ -13,44 +14,6 @@ fn file(name: &str) -> Vec<u8> {
 
 fn lines(name: &str) -> Vec<String> {
     String::from_utf8(file(name)).unwrap().lines().map(String::from).collect()
-}
-
-/// A call line's call; an unknown name is a place that nothing has.
-fn call(library: &Library, line: &str) -> Call {
-    let words: Vec<&str> = line.split(' ').collect();
-    let slot: u32 = words[1].parse().unwrap();
-    let class_place = |name: &str| library.classes.iter().position(|c| c.name == name);
-    match words[0] {
-        "begin" => Call::Begin(slot),
-        "step" => Call::Step(slot),
-        "commit" => Call::Commit(slot),
-        "abort" => Call::Abort(slot),
-        kind => {
-            let (target, class) = if kind == "send" {
-                let place = library.objects.iter().position(|o| o.name == words[2]);
-                (Target::Object(place.map_or(u32::MAX, |p| p as u32)), place.map(|p| library.objects[p].class.clone()))
-            } else {
-                let place = class_place(words[2]);
-                let number = place.map_or(u32::MAX, |p| p as u32);
-                let target = if kind == "all" { Target::Class(number) } else { Target::Domain(number) };
-                (target, place.map(|_| words[2].to_string()))
-            };
-            let place = class.and_then(|c| library.methods(&c).iter().position(|m| m == words[3]));
-            let method = place.map_or(u32::MAX, |p| p as u32);
-            Call::Send { slot, target, method, argument: words[4].parse().unwrap() }
-        }
-    }
-}
-
-fn said(answer: Answer) -> String {
-    match answer {
-        Answer::Done => "ok".into(),
-        Answer::Going => "going".into(),
-        Answer::Answer(v) => format!("answer {v}"),
-        Answer::Refused(n) => n.to_string(),
-        Answer::Held(s) => format!("40 {s}"),
-        Answer::Stopped => "41".into(),
-    }
 }
 
 #[test]
@@ -76,10 +39,11 @@ fn call_lists() {
             let call = call(&library, line);
             let answer = machine.call(call);
             course.feed(call, answer);
-            let values: Vec<String> = machine.values().iter().map(u32::to_string).collect();
-            let found = format!("{} | {}", said(answer), values.join(" "));
+            let found = traced(answer, &machine.values());
             assert_eq!(found.trim_end(), trace[k].trim_end(), "list {n}, call {}: {line}", k + 1);
         }
+        let last = objects(&library, &machine.values());
+        assert_eq!(last, trace[trace.len() - last.len()..], "list {n}: the objects at the end");
         for slot in 0..8 {
             let answer = machine.call(Call::Abort(slot));
             course.feed(Call::Abort(slot), answer);

@@ -1,0 +1,42 @@
+-- The number and the line are those of the verdict.
+use Rattle.abi.specs.Laws.{tells-accepted, tells-refused}
+use borrow.Author.Needs.{needs}
+use Rattle.abi.proofs.cishmolaq_check.Statement.{statement}
+use Rattle.abi.proofs.cishmolaq_check.Tie as tie
+
+check-requires : tie.Need-check-requires
+check-requires c κs = search needs
+
+enum-told : tie.Need-enum-told
+enum-told c = search needs
+
+told-requires : tie.Need-told-requires
+told-requires c κs = search needs
+
+enum-known-verdict : tie.Need-enum-known-verdict
+enum-known-verdict c = search needs
+
+told-requires-2 : tie.Need-told-requires-2
+told-requires-2 c κs = search needs
+
+returns : tie.Need-returns
+returns c =
+    let accepted = c .before .before .enum-told .given .1 in
+    tells-accepted (c .before .before .before .before .check .ensures) accepted (c .told .ensures .0) (c .told .ensures .1)
+
+returns-2 : tie.Need-returns-2
+returns-2 c =
+    let refused = c .before .before .before .verdict .given .1 in
+    tells-refused (c .before .before .before .before .before .check .ensures) _ _ refused (c .told2 .ensures .0) (c .told2 .ensures .1)
+
+pub cishmolaq-check-spec : {M : Type 1} → statement M
+cishmolaq-check-spec =
+    tie.close
+    (tie.spec
+    check-requires
+    enum-told
+    told-requires
+    enum-known-verdict
+    told-requires-2
+    returns
+    returns-2)

@@ -1,0 +1,26 @@
+-- The answer is the entry's for the target of that kind, told as a number and a detail.
+use Rattle.abi.specs.CallLaws.{tells-call, sent-to}
+use borrow.Author.Needs.{needs}
+use Rattle.abi.proofs.cishmolaq_send.Statement.{statement}
+use Rattle.abi.proofs.cishmolaq_send.Tie as tie
+
+target-of-requires : tie.Need-target-of-requires
+target-of-requires c κs = search needs
+
+send-requires : tie.Need-send-requires
+send-requires c κs = search needs
+
+tell-call-requires : tie.Need-tell-call-requires
+tell-call-requires c κs = search needs
+
+same-length : tie.Need-same-length
+same-length c = search needs
+
+returns : tie.Need-returns
+returns c =
+    let named = c .before .before .before .before .before .before .target-of .ensures in
+    tells-call (sent-to (c .before .before .before .before .send .ensures) named) (c .tell-call .ensures .0) (c .tell-call .ensures .1)
+
+pub cishmolaq-send-spec : {M : Type 1} → statement M
+cishmolaq-send-spec =
+    tie.close (tie.spec target-of-requires send-requires tell-call-requires same-length returns)

@@ -1,0 +1,258 @@
+// The entries of crate `cishmolaq` for C and Rust: `host/include/cishmolaq.h` says what each needs and answers.
+// An answer is a number, 0 where it is done; a length or a line goes through a lent place.
+use cishmolaq::Answer;
+use reader::Verdict;
+use sends::Target;
+use slots::Outcome;
+ghost use mathlib.Core.Path.{_≡_};
+ghost use lib.ListN.{length};
+ghost use Rattle.model.specs.Image.{compiledInto, startingValuesInto};
+ghost use Rattle.model.specs.Tables.{printed};
+ghost use Rattle.model.specs.Read.{accepted, read};
+ghost use Rattle.model.specs.Service.{begin, send, step, commit, abort};
+ghost use Rattle.model.specs.Machine.{to};
+ghost use Rattle.words.specs.View.{libraryOf};
+ghost use Rattle.image.specs.Append.{Printed};
+ghost use Rattle.sends.specs.Aimed.{aimed};
+ghost use Rattle.cishmolaq.specs.Answers.{said, compileAnswer, valuesAnswer, statementAnswer, startAnswer, StartLeaves};
+ghost use Rattle.abi.specs.Numbers.{Tells, checkAnswer, HandsBack};
+ghost use Rattle.abi.specs.Calls.{callNumber, callDetail, targetOf, Called};
+
+// A number to answer; what goes with it goes through the lent place.
+fn told(number: u32, with: usize, detail: &mut usize) -> u32
+    ensures { λ r. ⌜ r ≡ number ⌝ }
+    ensures { λ _. ⌜ now (detail .exit) ≡ with ⌝ }
+{
+    *detail = with;
+    number
+}
+
+// The number of an answer; its length or line goes through the lent place.
+fn tell(answer: Answer, detail: &mut usize) -> u32
+    ensures { λ r. ⌜ Tells (said answer) r (now (detail .exit)) ⌝ }
+{
+    match answer {
+        Answer::Done(length) => told(0, length, detail),
+        Answer::Refused(number, line) => told(number, line, detail),
+    }
+}
+
+// The verdict on a text: 0, or the number of its fault with its line.
+#[no_mangle]
+pub extern "C" fn cishmolaq_check(text: &[u8], line: &mut usize) -> u32
+    ensures { λ r. ⌜ Tells (checkAnswer (now (text .entry))) r (now (line .exit)) ⌝ }
+{
+    let verdict = cishmolaq::check(text);
+    match verdict {
+        Verdict::Accepted => told(0, 0, line),
+        Verdict::Refused(number, at) => told(number, at, line),
+    }
+}
+
+// Writes the image of the text: 0 with its length; or a number with its line.
+#[no_mangle]
+pub extern "C" fn cishmolaq_compile(text: &[u8], image: &mut [u8], detail: &mut usize) -> u32
+    ensures { λ r. ⌜ Tells (compileAnswer (now (text .entry)) (length (now (image .entry)))) r (now (detail .exit)) ⌝ }
+    ensures { λ _. ⌜ now (image .exit) ≡ compiledInto (now (text .entry)) (now (image .entry)) ⌝ }
+{
+    let compiled = cishmolaq::compile(text, image);
+    tell(compiled, detail)
+}
+
+// The statement with this count in tables that hold it, by its place and its size; nothing where there is none.
+fn place_at(text: &[u8], tables: &[u32], count: u32, size: &mut usize) -> usize
+    ensures { λ r. ⌜ (read (now (text .entry)) ≡ accepted (libraryOf (now (text .entry)) (now (tables .entry)))
+        → HandsBack (now (text .entry)) count r (now (size .exit))) ⌝ }
+{
+    if count < words::statement_count(tables) {
+        let word = words::get(tables, 3976 + count as usize);
+        let part = words::part_of(text, word);
+        *size = part.len();
+        let place = (word / 65536) as usize;
+        if place < text.len() { place } else { 0 }
+    } else {
+        *size = 0;
+        0
+    }
+}
+
+// The place of the statement with this count in the text, and its size; 0 and 0 where it is refused.
+#[no_mangle]
+pub extern "C" fn cishmolaq_statement(text: &[u8], count: u32, size: &mut usize) -> usize
+    ensures { λ r. ⌜ HandsBack (now (text .entry)) count r (now (size .exit)) ⌝ }
+{
+    *size = 0;
+    let mut tables = [0u32; 8072];
+    let verdict = reader::read_text(text, &mut tables);
+    match verdict {
+        Verdict::Refused(_, _) => 0,
+        Verdict::Accepted => place_at(text, &tables, count, size),
+    }
+}
+
+// The number that looking up a statement by its count gives, with its line.
+#[no_mangle]
+pub extern "C" fn cishmolaq_statement_fault(text: &[u8], count: u32, line: &mut usize) -> u32
+    ensures { λ r. ⌜ Tells (statementAnswer (now (text .entry)) count) r (now (line .exit)) ⌝ }
+{
+    let found = cishmolaq::statement_fault(text, count);
+    tell(found, line)
+}
+
+// Writes the text's starting values: 0, or a number with its line.
+#[no_mangle]
+pub extern "C" fn cishmolaq_starting_values(
+    text: &[u8],
+    values: &mut [u32],
+    line: &mut usize,
+) -> u32
+    ensures { λ r. ⌜ Tells (valuesAnswer (now (text .entry)) (length (now (values .entry)))) r (now (line .exit)) ⌝ }
+    ensures { λ _. ⌜ now (values .exit) ≡ startingValuesInto (now (text .entry)) (now (values .entry)) ⌝ }
+{
+    let written = cishmolaq::starting_values(text, values);
+    tell(written, line)
+}
+
+// Writes what `tables` prints for the text, as far as there is room, and answers its length.
+#[no_mangle]
+pub extern "C" fn cishmolaq_print_tables(text: &[u8], out: &mut [u8]) -> usize
+    ensures { λ r. ⌜ Printed (printed (now (text .entry))) (now (out .entry)) r (now (out .exit)) ⌝ }
+{
+    cishmolaq::print_tables(text, out)
+}
+
+// Starts a machine in the lent state: 0, or a number with its line.
+#[no_mangle]
+pub extern "C" fn cishmolaq_start(
+    text: &[u8],
+    values: &[u32],
+    state: &mut [u32],
+    line: &mut usize,
+) -> u32
+    ensures { λ r. ⌜ Tells (startAnswer (now (text .entry)) (length (now (values .entry))) (length (now (state .entry)))) r (now (line .exit)) ⌝ }
+    ensures { λ _. ⌜ StartLeaves (now (text .entry)) (now (values .entry)) (now (state .entry))
+        (startAnswer (now (text .entry)) (length (now (values .entry))) (length (now (state .entry)))) (now (state .exit)) ⌝ }
+{
+    let started = cishmolaq::start(text, values, state);
+    tell(started, line)
+}
+
+// A number to answer to a call; what goes with it goes through the lent place.
+fn told_with(number: u32, with: u32, detail: &mut u32) -> u32
+    ensures { λ r. ⌜ r ≡ number ⌝ }
+    ensures { λ _. ⌜ now (detail .exit) ≡ with ⌝ }
+{
+    *detail = with;
+    number
+}
+
+// The number of what a call answers; the message's answer or the slot goes through the lent place.
+fn tell_call(outcome: Outcome, detail: &mut u32) -> u32
+    ensures { λ r. ⌜ r ≡ callNumber outcome ⌝ }
+    ensures { λ _. ⌜ now (detail .exit) ≡ callDetail outcome ⌝ }
+{
+    match outcome {
+        Outcome::Done => told_with(0, 0, detail),
+        Outcome::Going => told_with(1, 0, detail),
+        Outcome::Answer(value) => told_with(2, value, detail),
+        Outcome::Refused(number) => told_with(number, 0, detail),
+        Outcome::Held(slot) => told_with(40, slot, detail),
+        Outcome::Stopped => told_with(41, 0, detail),
+    }
+}
+
+// Whom a send names: an object (0), a class's own objects (1), a class's domain (2); any other kind an object that is never
+// there.
+fn target_of(kind: u32, number: u32) -> Target
+    ensures { λ r. ⌜ aimed r ≡ targetOf kind number ⌝ }
+{
+    if kind == 0 {
+        Target::Object(number)
+    } else if kind == 1 {
+        Target::Class(number)
+    } else if kind == 2 {
+        Target::Domain(number)
+    } else {
+        Target::Object(64)
+    }
+}
+
+// Opens a slot for a transaction.
+#[no_mangle]
+pub extern "C" fn cishmolaq_begin(
+    text: &[u8],
+    state: &mut [u32],
+    values: &[u32],
+    slot: u32,
+    detail: &mut u32,
+) -> u32
+    ensures { λ r. ⌜ Called (now (text .entry)) (now (state .entry)) (now (values .entry)) (begin slot) r (now (detail .exit)) (now (state .exit)) (now (values .entry)) ⌝ }
+{
+    let begun = cishmolaq::begin(text, state, values, slot);
+    tell_call(begun, detail)
+}
+
+// Sends a message to a target, by its kind and its number.
+#[no_mangle]
+pub extern "C" fn cishmolaq_send(
+    text: &[u8],
+    state: &mut [u32],
+    values: &[u32],
+    slot: u32,
+    kind: u32,
+    number: u32,
+    method: u32,
+    argument: u32,
+    detail: &mut u32,
+) -> u32
+    ensures { λ r. ⌜ Called (now (text .entry)) (now (state .entry)) (now (values .entry)) (send slot (to (targetOf kind number) method argument)) r (now (detail .exit)) (now (state .exit)) (now (values .entry)) ⌝ }
+{
+    let target = target_of(kind, number);
+    let sent = cishmolaq::send(text, state, values, slot, target, method, argument);
+    tell_call(sent, detail)
+}
+
+// Runs one statement of the slot's message, or ends a body.
+#[no_mangle]
+pub extern "C" fn cishmolaq_step(
+    text: &[u8],
+    state: &mut [u32],
+    values: &mut [u32],
+    slot: u32,
+    detail: &mut u32,
+) -> u32
+    ensures { λ r. ⌜ Called (now (text .entry)) (now (state .entry)) (now (values .entry)) (step slot) r (now (detail .exit)) (now (state .exit)) (now (values .exit)) ⌝ }
+{
+    let stepped = cishmolaq::step(text, state, values, slot);
+    tell_call(stepped, detail)
+}
+
+// Frees the slot and leaves the values.
+#[no_mangle]
+pub extern "C" fn cishmolaq_commit(
+    text: &[u8],
+    state: &mut [u32],
+    values: &[u32],
+    slot: u32,
+    detail: &mut u32,
+) -> u32
+    ensures { λ r. ⌜ Called (now (text .entry)) (now (state .entry)) (now (values .entry)) (commit slot) r (now (detail .exit)) (now (state .exit)) (now (values .entry)) ⌝ }
+{
+    let committed = cishmolaq::commit(text, state, values, slot);
+    tell_call(committed, detail)
+}
+
+// Puts back each value that the transaction set, and frees the slot.
+#[no_mangle]
+pub extern "C" fn cishmolaq_abort(
+    text: &[u8],
+    state: &mut [u32],
+    values: &mut [u32],
+    slot: u32,
+    detail: &mut u32,
+) -> u32
+    ensures { λ r. ⌜ Called (now (text .entry)) (now (state .entry)) (now (values .entry)) (abort slot) r (now (detail .exit)) (now (state .exit)) (now (values .exit)) ⌝ }
+{
+    let aborted = cishmolaq::abort(text, state, values, slot);
+    tell_call(aborted, detail)
+}

@@ -1,0 +1,11 @@
+#!/bin/sh
+# Prints the tables of docs/PERFORMANCE.md: ./host/benchmark/run.sh, after `rt staticlib abi`. Debian's libdb5.3-dev is installed
+# where it is missing.
+set -eu
+cd "$(dirname "$0")/.."
+[ -f /usr/include/db.h ] || { apt-get update -qq && apt-get install -y -qq libdb5.3-dev; }
+mkdir -p target
+cc -O2 -Wall -Wextra -o target/berkeley benchmark/berkeley.c -ldb
+echo "processors $(nproc), load $(cut -d ' ' -f 1-3 /proc/loadavg)"
+cargo build --quiet --release --offline -p benchmark
+target/release/benchmark "$PWD/target/berkeley"

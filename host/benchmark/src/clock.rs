@@ -1,0 +1,63 @@
+//! Times of two things in turn. Each round does one for some milliseconds and then the other; the least time of all rounds is
+//! kept, since other work on the machine only adds.
+
+use std::process::Command;
+use std::time::Instant;
+
+/// Nanoseconds.
+pub type Time = f64;
+
+/// How long a thing is done in a round, in nanoseconds.
+const ROUND: f64 = 1e7;
+/// At most as many rounds, and no new one after as many nanoseconds.
+const ROUNDS: usize = 60;
+const LONGEST: f64 = 4e9;
+
+pub fn shown(time: Time) -> String {
+    match time {
+        t if t < 1e3 => format!("{t:.0} ns"),
+        t if t < 1e6 => format!("{:.2} us", t / 1e3),
+        t => format!("{:.2} ms", t / 1e6),
+    }
+}
+
+/// The time of one, done as often as named. What it gives must be true.
+fn repeated(one: &mut dyn FnMut() -> bool, times: usize) -> Time {
+    let from = Instant::now();
+    for _ in 0..times {
+        assert!(one(), "a thing that is timed fails");
+    }
+    from.elapsed().as_nanos() as f64 / times as f64
+}
+
+fn times_for(one: &mut dyn FnMut() -> bool) -> usize {
+    let first = repeated(one, 1).min(repeated(one, 3));
+    (ROUND / first).clamp(1.0, 1e6) as usize
+}
+
+pub fn both(mut ours: impl FnMut() -> bool, mut second: impl FnMut() -> bool) -> (Time, Time) {
+    let (a, b) = (times_for(&mut ours), times_for(&mut second));
+    let from = Instant::now();
+    let mut least = (f64::MAX, f64::MAX);
+    for round in 0..ROUNDS {
+        least = (least.0.min(repeated(&mut ours, a)), least.1.min(repeated(&mut second, b)));
+        if round > 0 && from.elapsed().as_nanos() as f64 > LONGEST {
+            break;
+        }
+    }
+    least
+}
+
+pub fn each(one: impl FnMut() -> bool) -> Time {
+    both(one, || true).0
+}
+
+/// The time that a program prints for one, in nanoseconds: the least of some runs.
+pub fn of_program(program: &str, word: &str) -> Time {
+    let run = |_| {
+        let output = Command::new(program).arg(word).output().unwrap_or_else(|e| panic!("{program}: {e}"));
+        assert!(output.status.success(), "{program}: {}", String::from_utf8_lossy(&output.stderr));
+        String::from_utf8_lossy(&output.stdout).trim().parse::<Time>().expect("a number")
+    };
+    (0..5).map(run).reduce(f64::min).unwrap()
+}

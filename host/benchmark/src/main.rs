@@ -1,0 +1,116 @@
+//! How fast the proved library is: beside the second implementation, both in turn in one run, and, where its program is named
+//! as the argument, beside Berkeley DB's lock subsystem. Prints the tables of docs/PERFORMANCE.md.
+
+mod clock;
+mod texts;
+
+use clock::{both, each, shown, Time};
+use reference::machine::{Call, Target};
+use std::hint::black_box;
+use wrapper::machine::{lent, STATE_WORDS};
+
+/// A row of a table: what, on which text, the two times and their ratio.
+fn row(what: &str, on: &str, times: (Time, Time)) {
+    println!("| {what} | {on} | {} | {} | {:.2} |", shown(times.0), shown(times.1), times.0 / times.1);
+}
+
+fn reading(samples: &[(String, Vec<u8>)]) {
+    let mut image = vec![0; wrapper::LONGEST_IMAGE];
+    for (name, text) in samples {
+        row("check", name, both(|| black_box(wrapper::check(text).is_ok()), || black_box(reference::read(text).is_ok())));
+    }
+    for (name, text) in samples {
+        let ours = || black_box(wrapper::compile(text, &mut image).is_ok());
+        row("compile", name, both(ours, || black_box(reference::image::image(text).is_ok())));
+    }
+    for (name, text) in samples {
+        let values = reference::read(text).unwrap().starting_values();
+        let mut state = vec![0; STATE_WORDS];
+        let ours = || black_box(lent::start(text, &values, &mut state).is_ok());
+        let second = || {
+            let library = reference::read(text).unwrap();
+            black_box(reference::machine::Machine::start(&library, &values).is_some())
+        };
+        row("start", name, both(ours, second));
+    }
+}
+
+/// A transaction of one message: begin, a send to an object, steps to its answer, commit; and how many steps that is.
+fn transaction(text: &[u8], method: u32) -> (usize, (Time, Time)) {
+    let library = reference::read(text).unwrap();
+    let mut values = library.starting_values();
+    let mut state = vec![0; STATE_WORDS];
+    lent::start(text, &values, &mut state).unwrap();
+    let mut machine = reference::machine::Machine::start(&library, &values).unwrap();
+    let mut steps = 0;
+    let ours = || {
+        lent::begin(text, &mut state, &values, 0);
+        lent::send(text, &mut state, &values, 0, wrapper::machine::Target::Object(0), method, 3);
+        steps = 1;
+        while lent::step(text, &mut state, &mut values, 0) == lent::Outcome::Going {
+            steps += 1;
+        }
+        lent::commit(text, &mut state, &values, 0) == lent::Outcome::Done
+    };
+    let second = || {
+        machine.call(Call::Begin(0));
+        machine.call(Call::Send { slot: 0, target: Target::Object(0), method, argument: 3 });
+        while machine.call(Call::Step(0)) == reference::machine::Answer::Going {}
+        machine.call(Call::Commit(0)) == reference::machine::Answer::Done
+    };
+    let times = both(ours, second);
+    (steps, times)
+}
+
+fn machine(samples: &[(String, Vec<u8>)]) {
+    let short = transaction(&samples[0].1, 1);
+    row("begin, send, 2 steps, commit", &samples[0].0, short.1);
+    for (name, text) in texts::messages() {
+        let (steps, (ours, second)) = transaction(&text, 0);
+        row(&format!("one of {steps} steps"), &name, (ours / steps as f64, second / steps as f64));
+    }
+}
+
+/// A transaction of a send to an object whose method has an empty body, and its parts, beside Berkeley DB's lock subsystem.
+fn locks(program: Option<&String>) {
+    let text = b"class a\nmethod m\nend\nobject o a\n";
+    let (mut values, mut state) = ([0; 0], vec![0; STATE_WORDS]);
+    lent::start(text, &values, &mut state).unwrap();
+    let mut made = |calls: &[fn(&[u8], &mut [u32], &mut [u32]) -> lent::Outcome]| {
+        each(|| calls.iter().map(|call| call(text, &mut state, &mut values)).last() == Some(lent::Outcome::Done))
+    };
+    let begin = |t: &[u8], s: &mut [u32], v: &mut [u32]| lent::begin(t, s, v, 0);
+    let send = |t: &[u8], s: &mut [u32], v: &mut [u32]| lent::send(t, s, v, 0, wrapper::machine::Target::Object(0), 0, 3);
+    let step = |t: &[u8], s: &mut [u32], v: &mut [u32]| lent::step(t, s, v, 0);
+    let commit = |t: &[u8], s: &mut [u32], v: &mut [u32]| lent::commit(t, s, v, 0);
+    let abort = |t: &[u8], s: &mut [u32], v: &mut [u32]| lent::abort(t, s, v, 0);
+    let whole = made(&[begin, send, step, commit]);
+    println!("\n| two locks and their release | time |\n|---|---|");
+    println!("| begin, commit | {} |", shown(made(&[begin, commit])));
+    println!("| begin, send, abort | {} |", shown(made(&[begin, send, abort])));
+    println!("| begin, send, step, commit | {} |", shown(whole));
+    for (word, what) in [("plain", "one locker"), ("lockers", "a locker for each"), ("threads", "one locker, for threads")] {
+        if let Some(program) = program {
+            let theirs = clock::of_program(program, word);
+            println!("| Berkeley DB, {what} | {} ({:.1} times begin, send, step, commit) |", shown(theirs), theirs / whole);
+        }
+    }
+}
+
+fn growth() {
+    println!("\n| check of | time | a byte |\n|---|---|---|");
+    for kib in [1, 2, 4, 8, 16, 32] {
+        let text = generate::limits::of_length(kib * 1_024);
+        let time = each(|| wrapper::check(&text).is_ok());
+        println!("| {kib} KiB | {} | {:.2} ns |", shown(time), time / text.len() as f64);
+    }
+}
+
+fn main() {
+    let samples = texts::samples();
+    println!("| what | on | ours | second | ratio |\n|---|---|---|---|---|");
+    reading(&samples);
+    machine(&samples);
+    growth();
+    locks(std::env::args().nth(1).as_ref());
+}

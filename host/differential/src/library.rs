@@ -1,0 +1,134 @@
+//! The proved library's machine, as a machine that is compared: on guarded memory, and by the wrapper's `Machine`.
+
+use crate::guard::Guarded;
+use crate::machine::Machine;
+use generate::Random;
+use reference::machine::{Answer, Target};
+use wrapper::machine::lent::{self, Outcome};
+use wrapper::machine::{NotStarted, Refusal, Sent, Step, STATE_WORDS};
+
+/// The guard element of words.
+pub const GUARD: u32 = 0xa5a5_a5a5;
+
+pub fn target(target: Target) -> wrapper::machine::Target {
+    match target {
+        Target::Object(n) => wrapper::machine::Target::Object(n),
+        Target::Class(n) => wrapper::machine::Target::Class(n),
+        Target::Domain(n) => wrapper::machine::Target::Domain(n),
+    }
+}
+
+pub fn answer(outcome: Outcome) -> Answer {
+    match outcome {
+        Outcome::Done => Answer::Done,
+        Outcome::Going => Answer::Going,
+        Outcome::Answer(value) => Answer::Answer(value),
+        Outcome::Refused(number) => Answer::Refused(number),
+        Outcome::Held(slot) => Answer::Held(slot),
+        Outcome::Stopped => Answer::Stopped,
+    }
+}
+
+/// A machine on lent memory with guards around it; the state is longer than it must be, by words that no call may alter.
+pub struct Lent {
+    text: Guarded<u8>,
+    state: Guarded<u32>,
+    values: Guarded<u32>,
+    text_before: Vec<u8>,
+    past: Vec<u32>,
+}
+
+impl Lent {
+    /// Starts in a state that holds anything.
+    pub fn start(random: &mut Random, text: &[u8], values: &[u32]) -> Result<Lent, NotStarted> {
+        let longer = random.below(3) * random.below(20);
+        let rubbish: Vec<u32> = (0..STATE_WORDS + longer).map(|_| random.next() as u32).collect();
+        let mut machine = Lent {
+            text: Guarded::new(text, 0xa5),
+            state: Guarded::new(&rubbish, GUARD),
+            values: Guarded::new(values, GUARD),
+            text_before: text.to_vec(),
+            past: rubbish[STATE_WORDS..].to_vec(),
+        };
+        lent::start(machine.text.contents(), machine.values.contents(), machine.state.lent())?;
+        Ok(machine)
+    }
+}
+
+impl Machine for Lent {
+    fn begin(&mut self, slot: u32) -> Answer {
+        answer(lent::begin(self.text.contents(), self.state.lent(), self.values.contents(), slot))
+    }
+
+    fn send(&mut self, slot: u32, to: Target, method: u32, argument: u32) -> Answer {
+        answer(lent::send(self.text.contents(), self.state.lent(), self.values.contents(), slot, target(to), method, argument))
+    }
+
+    fn step(&mut self, slot: u32) -> Answer {
+        answer(lent::step(self.text.contents(), self.state.lent(), self.values.lent(), slot))
+    }
+
+    fn commit(&mut self, slot: u32) -> Answer {
+        answer(lent::commit(self.text.contents(), self.state.lent(), self.values.contents(), slot))
+    }
+
+    fn abort(&mut self, slot: u32) -> Answer {
+        answer(lent::abort(self.text.contents(), self.state.lent(), self.values.lent(), slot))
+    }
+
+    fn fields(&self) -> Vec<u32> {
+        assert!(self.text.contents() == self.text_before, "a call altered the text");
+        assert!(self.state.contents()[STATE_WORDS..] == self.past, "a call wrote past the state's words");
+        self.values.contents().to_vec()
+    }
+}
+
+fn refused(refusal: Refusal) -> Answer {
+    Answer::Refused(match refusal {
+        Refusal::NoSuchSlot => 31,
+        Refusal::NotOpen => 32,
+        Refusal::Open => 33,
+        Refusal::Running => 34,
+        Refusal::NotRunning => 35,
+        Refusal::NothingThere => 36,
+    })
+}
+
+fn done(result: Result<(), Refusal>) -> Answer {
+    result.map_or_else(refused, |()| Answer::Done)
+}
+
+impl Machine for wrapper::machine::Machine<'_> {
+    fn begin(&mut self, slot: u32) -> Answer {
+        done(self.begin(slot))
+    }
+
+    fn send(&mut self, slot: u32, to: Target, method: u32, argument: u32) -> Answer {
+        match self.send(slot, target(to), method, argument) {
+            Ok(Sent::Granted) => Answer::Done,
+            Ok(Sent::Held(by)) => Answer::Held(by),
+            Err(refusal) => refused(refusal),
+        }
+    }
+
+    fn step(&mut self, slot: u32) -> Answer {
+        match self.step(slot) {
+            Ok(Step::Going) => Answer::Going,
+            Ok(Step::Answer(value)) => Answer::Answer(value),
+            Ok(Step::Stopped) => Answer::Stopped,
+            Err(refusal) => refused(refusal),
+        }
+    }
+
+    fn commit(&mut self, slot: u32) -> Answer {
+        done(self.commit(slot))
+    }
+
+    fn abort(&mut self, slot: u32) -> Answer {
+        done(self.abort(slot))
+    }
+
+    fn fields(&self) -> Vec<u32> {
+        self.values().to_vec()
+    }
+}

@@ -1,0 +1,327 @@
+//! Calls on altered, shortened and exchanged memory. CISHMOLAQ_ALTERED sets how many generated machines are altered;
+//! CISHMOLAQ_APART=n alters each n-th word or byte only (valgrind is slow).
+
+use differential::altered::{Memory, ROW, ROWS};
+use differential::machine::Counts;
+use differential::{amount, each_seed};
+use generate::calls::{text_to_call, values_for, Caller};
+use generate::{limits, Random};
+use reference::machine::{Answer, Call, Target};
+use reference::text::Library;
+use std::collections::HashMap;
+use wrapper::machine::{lent, NotStarted, STATE_WORDS};
+
+/// A text whose messages set fields, call themselves, and visit several objects.
+const TEXT: &[u8] = b"class run
+field cycles
+field clusters
+method shot
+set cycles + cycles 1
+when < cycles 100 send plot to self cycles
+reply + got clusters
+end
+method plot
+set clusters * clusters arg
+reply clusters
+end
+class lane : run
+field focus
+method shot
+send run.shot to self + arg 1
+set focus - focus got
+reply = focus 0
+end
+method tune
+set focus + focus arg
+send tune to self arg
+end
+object run1 run 7 3
+object lane1 lane 1 2 3
+object lane2 lane 4 5
+";
+
+const VALUES: [u32; 8] = [7, 3, 1, 2, 3, 4, 5, 0];
+
+/// A send with argument 5.
+fn send(slot: u32, target: Target, method: u32) -> Call {
+    Call::Send { slot, target, method, argument: 5 }
+}
+
+/// Machines in the middle of their work: messages on an object, a class and a domain, locks, notes for undo.
+fn at_work() -> Vec<Memory> {
+    let steps = |slot: u32, n: usize| vec![Call::Step(slot); n];
+    let one = [vec![Call::Begin(0), send(0, Target::Domain(0), 0)], steps(0, 9), vec![Call::Begin(1)]];
+    let two = [
+        vec![Call::Begin(0), send(0, Target::Object(1), 2), Call::Begin(2), send(2, Target::Object(0), 0)],
+        [steps(0, 11), steps(2, 4)].concat(),
+        vec![Call::Begin(5), send(5, Target::Object(2), 1), Call::Begin(6), Call::Begin(7), send(7, Target::Class(0), 1)],
+    ];
+    [one.concat(), two.concat()].iter().map(|calls| {
+        let mut memory = Memory::started(TEXT, &VALUES);
+        calls.iter().for_each(|&call| {
+            memory.call(call);
+        });
+        memory
+    }).collect()
+}
+
+/// What is tried after an alteration: all calls on one slot, then some on others.
+fn calls_after(slot: u32) -> [Call; 12] {
+    let other = (slot + 1) % 8;
+    [
+        Call::Step(slot),
+        Call::Step(slot),
+        send(slot, Target::Domain(0), 0),
+        Call::Step(slot),
+        Call::Begin(other),
+        send(other, Target::Object(1), 2),
+        send(other, Target::Domain(1), 1),
+        Call::Step(other),
+        Call::Commit(slot),
+        Call::Abort(slot),
+        Call::Begin(slot),
+        Call::Step(0),
+    ]
+}
+
+fn edges(word: u32) -> [u32; 9] {
+    [0, 1, 31, 32, 33, 1 << 31, u32::MAX, word.wrapping_add(1), word.wrapping_sub(1)]
+}
+
+fn add(all: &mut Counts, more: Counts) {
+    for (kind, times) in more {
+        *all.entry(kind).or_insert(0) += times;
+    }
+}
+
+/// How many generated machines are altered.
+fn machines() -> u64 {
+    amount("CISHMOLAQ_ALTERED", 1_000)
+}
+
+/// How far the words or bytes stand apart that are altered in turn.
+fn apart() -> usize {
+    amount("CISHMOLAQ_APART", 1) as usize
+}
+
+/// Each of these answers was given, where as much is tried as in the gate.
+fn given(counts: &Counts, answers: &[&str]) {
+    println!("{} calls on altered memory: {counts:?}", counts.values().sum::<u64>());
+    for answer in answers {
+        assert!(apart() > 1 || machines() < 1_000 || counts.contains_key(*answer), "{answer} was never given: {counts:?}");
+    }
+}
+
+#[test]
+fn each_word_of_the_state() {
+    let mut all = Counts::new();
+    for base in at_work() {
+        let parts = each_seed(64, |part| {
+            let mut memory = Memory::new(base.text(), base.state(), base.values());
+            for place in (part as usize..STATE_WORDS).step_by(64).step_by(apart()) {
+                let word = base.state()[place];
+                let slot = if place < ROWS { (place % 3) as u32 * 5 % 8 } else { ((place - ROWS) / ROW) as u32 };
+                for edge in edges(word) {
+                    memory.set(base.state(), base.values());
+                    memory.put_word(place, edge);
+                    for call in calls_after(slot) {
+                        memory.call(call);
+                    }
+                }
+            }
+            memory.counts
+        });
+        parts.into_iter().for_each(|counts| add(&mut all, counts));
+    }
+    given(&all, &["ok", "going", "answer", "22", "24", "32", "33", "34", "35", "36", "40", "41"]);
+}
+
+#[test]
+fn each_byte_of_the_text() {
+    let mut all = Counts::new();
+    for base in at_work() {
+        let mut memory = Memory::new(base.text(), base.state(), base.values());
+        for place in (0..TEXT.len()).step_by(apart()) {
+            for byte in *b"\0\n .+9az\x80\xff" {
+                memory.set(base.state(), base.values());
+                memory.put_byte(place, byte);
+                for slot in [0, 2, 5] {
+                    calls_after(slot).into_iter().for_each(|call| {
+                        memory.call(call);
+                    });
+                }
+            }
+            memory.put_byte(place, TEXT[place]);
+        }
+        add(&mut all, memory.counts);
+    }
+    given(&all, &["ok", "going", "answer", "24", "32", "33", "34", "35", "40"]);
+}
+
+/// A call on these is refused with this number.
+fn refused(text: &[u8], state: &[u32], values: &[u32], number: u32) {
+    let mut memory = Memory::new(text, state, values);
+    for slot in [0, 1, 7, 8, u32::MAX] {
+        for call in calls_after(slot % 8).into_iter().chain([Call::Begin(slot), Call::Step(slot)]) {
+            assert_eq!(memory.call(call), Answer::Refused(number), "{call:?} on {} bytes, {} words, {} values", text.len(), state.len(), values.len());
+        }
+    }
+}
+
+#[test]
+fn other_lengths() {
+    for base in at_work() {
+        let (text, state, values) = (base.text(), base.state(), base.values());
+        for words in [0, 1, 3, 5, 8, ROWS - 1, ROWS, ROWS + 1, ROWS + ROW, STATE_WORDS - ROW, STATE_WORDS - 1] {
+            refused(text, &state[..words], values, 21);
+            refused(text, &state[..words], &values[1..], 21);
+            let mut short = vec![9; words];
+            assert_eq!(lent::start(text, values, &mut short), Err(NotStarted::ShortState));
+            assert!(short.iter().all(|&w| w == 9), "a refused start wrote");
+        }
+        for count in (0..values.len()).chain([values.len() + 1, 2_048, 2_049, 5_000]) {
+            let other: Vec<u32> = values.iter().copied().chain(std::iter::repeat(1)).take(count).collect();
+            refused(text, state, &other, 22);
+            refused(&text[1..], state, &other, 22);
+            let mut new = state.to_vec();
+            assert_eq!(lent::start(text, &other, &mut new), Err(NotStarted::OtherCount));
+            assert!(new == state, "a refused start wrote");
+        }
+        for length in (0..text.len()).step_by(apart()) {
+            refused(&text[..length], state, values, 24);
+        }
+        refused(&[text, b"\n"].concat(), state, values, 24);
+        refused(&limits::of_length(32_768), state, values, 24);
+    }
+}
+
+/// A machine on a generated text after some generated calls.
+fn generated(random: &mut Random, text: &[u8], library: &Library, values: &[u32]) -> Memory {
+    let mut memory = Memory::started(text, values);
+    let mut caller = Caller::new(random, library);
+    for _ in 0..random.below(120) {
+        let call = caller.next(random, library);
+        let answer = memory.call(call);
+        caller.told(call, answer);
+    }
+    memory
+}
+
+/// Generated calls on whatever memory this is.
+fn try_calls(random: &mut Random, library: &Library, memory: &mut Memory) {
+    let mut caller = Caller::new(random, library);
+    for _ in 0..60 {
+        let call = caller.next(random, library);
+        let answer = memory.call(call);
+        caller.told(call, answer);
+    }
+}
+
+/// Some words set to edges or to anything; the words that every call looks at first often stay.
+fn alter(random: &mut Random, memory: &mut Memory) {
+    for _ in 0..1 + random.below(40) {
+        let place = match random.below(4) {
+            0 => random.below(8),
+            1 => 8 + random.below(ROWS - 8),
+            2 => ROWS + random.below(8) * ROW + random.below(216),
+            _ => ROWS + random.below(8 * ROW),
+        };
+        let word = memory.state()[place];
+        let new = match random.below(3) {
+            0 => *random.pick(&edges(word)),
+            1 => word ^ 1 << random.below(32),
+            _ => random.edge(),
+        };
+        if !(3..6).contains(&place) || random.one_in(20) {
+            memory.put_word(place, new);
+        }
+    }
+}
+
+/// Any words at all, with the three that every call looks at first.
+fn rubbish(random: &mut Random, memory: &mut Memory) {
+    let narrow = random.below(33) as u32;
+    for place in 0..STATE_WORDS {
+        if !(3..6).contains(&place) {
+            let word = (random.next() as u32).checked_shr(narrow).unwrap_or(0);
+            memory.put_word(place, word);
+        }
+    }
+}
+
+#[test]
+fn generated_machines_altered() {
+    let counted = each_seed(machines(), |seed| {
+        let mut random = Random::new(seed + 3_000_000);
+        let text = text_to_call(&mut random);
+        let library = reference::read(&text).unwrap();
+        let values = values_for(&mut random, &library);
+        let base = generated(&mut random, &text, &library, &values);
+        let mut memory = Memory::new(&text, base.state(), base.values());
+        for round in 0..12 {
+            memory.set(base.state(), base.values());
+            if round == 0 {
+                rubbish(&mut random, &mut memory);
+            } else {
+                alter(&mut random, &mut memory);
+            }
+            try_calls(&mut random, &library, &mut memory);
+        }
+        memory.counts
+    });
+    let mut all = Counts::new();
+    counted.into_iter().for_each(|counts| add(&mut all, counts));
+    given(&all, &["ok", "going", "answer", "22", "24", "31", "32", "33", "34", "35", "36", "40", "41"]);
+}
+
+/// Texts of one length and one count of values, two by two.
+fn pairs(random: &mut Random, count: usize) -> Vec<(Vec<u8>, Vec<u8>)> {
+    let mut seen: HashMap<(usize, usize), Vec<u8>> = HashMap::new();
+    let mut pairs = Vec::new();
+    while pairs.len() < count {
+        let text = text_to_call(random);
+        let size = reference::read(&text).unwrap().starting_values().len();
+        match seen.insert((text.len(), size), text.clone()) {
+            Some(other) if other != text => pairs.push((other, text)),
+            _ => {}
+        }
+    }
+    pairs
+}
+
+/// Text, state and values exchanged between two machines, in every way; and two machines on one list of values.
+#[test]
+fn exchanged() {
+    let mut random = Random::new(4_000_000);
+    let mut all = Counts::new();
+    for (first, second) in pairs(&mut random, machines() as usize / 4) {
+        let made: Vec<(Library, Memory)> = [&first, &second].into_iter().map(|text| {
+            let library = reference::read(text).unwrap();
+            let values = values_for(&mut random, &library);
+            let memory = generated(&mut random, text, &library, &values);
+            (library, memory)
+        }).collect();
+        for exchange in 1..8 {
+            let of = |bit: usize| &made[exchange >> bit & 1].1;
+            let mut memory = Memory::new(of(0).text(), of(1).state(), of(2).values());
+            try_calls(&mut random, &made[0].0, &mut memory);
+            add(&mut all, memory.counts);
+        }
+        let (library, one) = &made[0];
+        let values = values_for(&mut random, library);
+        let mut two = generated(&mut random, &first, library, &values);
+        let mut memory = Memory::new(&first, one.state(), one.values());
+        for _ in 0..4 {
+            try_calls(&mut random, library, &mut memory);
+            let shared = memory.values().to_vec();
+            let state = two.state().to_vec();
+            two.set(&state, &shared);
+            try_calls(&mut random, library, &mut two);
+            let (state, shared) = (memory.state().to_vec(), two.values().to_vec());
+            memory.set(&state, &shared);
+        }
+        add(&mut all, memory.counts);
+        add(&mut all, two.counts);
+    }
+    given(&all, &["ok", "going", "answer", "24", "31", "32", "33", "34", "35", "36", "40", "41"]);
+}

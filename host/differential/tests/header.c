@@ -1,0 +1,74 @@
+/* Calls each function of the header once or twice, and prints what it answers. */
+#include "cishmolaq.h"
+#include <stdio.h>
+#include <string.h>
+
+static const char *const good =
+    "class run\nfield cycles\nfield clusters\nmethod shot\nset cycles + cycles 1\nend\nmethod plot\nreply clusters\nend\n"
+    "object run1 run 7\n";
+static const char *const bad = "class run\nclass run\n";
+
+#define TEXT(s) (const uint8_t *)(s), strlen(s)
+#define LENT TEXT(good), state, CISHMOLAQ_STATE_WORDS, values, 2
+
+static uint32_t state[CISHMOLAQ_STATE_WORDS];
+
+/* Two slots on one object: a clash, a message to its answer, an abort. */
+static void machine(void) {
+    uint32_t values[2] = {7, 0};
+    uint32_t detail = 99;
+    size_t line = 99;
+    uint32_t number = cishmolaq_start(TEXT(good), values, 1, state, CISHMOLAQ_STATE_WORDS, &line);
+    printf("start %u %zu\n", number, line);
+    number = cishmolaq_start(TEXT(good), values, 2, state, CISHMOLAQ_STATE_WORDS, &line);
+    printf("start %u %zu\n", number, line);
+    number = cishmolaq_begin(LENT, 3, &detail);
+    printf("begin %u %u\n", number, detail);
+    number = cishmolaq_begin(LENT, 5, &detail);
+    printf("begin %u %u\n", number, detail);
+    number = cishmolaq_begin(LENT, 8, &detail);
+    printf("begin %u %u\n", number, detail);
+    number = cishmolaq_send(LENT, 3, CISHMOLAQ_OBJECT, 0, 0, 1, &detail);
+    printf("send %u %u\n", number, detail);
+    number = cishmolaq_send(LENT, 5, CISHMOLAQ_DOMAIN, 0, 0, 1, &detail);
+    printf("send %u %u\n", number, detail);
+    number = cishmolaq_send(LENT, 5, 3, 0, 0, 1, &detail);
+    printf("send %u %u\n", number, detail);
+    number = cishmolaq_send(LENT, 5, CISHMOLAQ_CLASS, 0, 1, 1, &detail);
+    printf("send %u %u\n", number, detail);
+    do {
+        number = cishmolaq_step(LENT, 3, &detail);
+        printf("step %u %u: %u %u\n", number, detail, values[0], values[1]);
+    } while (number == 1);
+    number = cishmolaq_commit(LENT, 5, &detail);
+    printf("commit %u %u\n", number, detail);
+    number = cishmolaq_abort(LENT, 3, &detail);
+    printf("abort %u %u: %u %u\n", number, detail, values[0], values[1]);
+}
+
+int main(void) {
+    uint8_t image[CISHMOLAQ_LONGEST_IMAGE];
+    uint8_t lines[CISHMOLAQ_LONGEST_TABLES];
+    uint32_t values[2] = {1, 1};
+    size_t detail = 99;
+    uint32_t number = cishmolaq_check(TEXT(good), &detail);
+    printf("check %u %zu\n", number, detail);
+    number = cishmolaq_check(TEXT(bad), &detail);
+    printf("check %u %zu\n", number, detail);
+    number = cishmolaq_compile(TEXT(good), image, sizeof image, &detail);
+    printf("compile %u %zu %u\n", number, detail, image[0]);
+    number = cishmolaq_compile(TEXT(good), image, 3, &detail);
+    printf("compile %u %zu\n", number, detail);
+    size_t place = cishmolaq_statement(TEXT(good), 1, &detail);
+    printf("statement %zu %zu %.*s\n", place, detail, (int)detail, good + place);
+    number = cishmolaq_statement_fault(TEXT(good), 2, &detail);
+    printf("statement_fault %u %zu\n", number, detail);
+    number = cishmolaq_starting_values(TEXT(good), values, 2, &detail);
+    printf("starting_values %u %zu: %u %u\n", number, detail, values[0], values[1]);
+    number = cishmolaq_starting_values(TEXT(good), values, 1, &detail);
+    printf("starting_values %u %zu\n", number, detail);
+    size_t length = cishmolaq_print_tables(TEXT(good), lines, sizeof lines);
+    printf("tables %zu\n%.*s", length, (int)length, (const char *)lines);
+    machine();
+    return 0;
+}

@@ -1,0 +1,71 @@
+//! The header compiles as strict C, a C program over it is answered as it says, and the stack that it names is enough.
+
+use generate::limits;
+use std::path::PathBuf;
+use std::process::Command;
+use wrapper::machine::{Machine, Step, Target};
+
+const RIGHT: &str = "check 0 0
+check 13 2
+compile 0 64 24
+compile 21 0
+statement 88 14 reply clusters
+statement_fault 23 0
+starting_values 0 0: 7 0
+starting_values 22 0
+tables 30
+run shot WN ny
+run plot NR yy
+start 22 0
+start 0 0
+begin 0 0
+begin 0 0
+begin 31 0
+send 0 0
+send 40 3
+send 36 0
+send 0 0
+step 1 0: 8 0
+step 2 0: 8 0
+commit 34 0
+abort 0 0: 7 0
+";
+
+fn run(command: &mut Command) -> String {
+    let output = command.output().unwrap_or_else(|e| panic!("{command:?}: {e}"));
+    assert!(output.status.success(), "{command:?}\n{}", String::from_utf8_lossy(&output.stderr));
+    String::from_utf8(output.stdout).unwrap()
+}
+
+#[test]
+fn a_c_program() {
+    let here = PathBuf::from(env!("CARGO_MANIFEST_DIR"));
+    let program = PathBuf::from(env!("CARGO_TARGET_TMPDIR")).join("header");
+    let mut compiler = Command::new("cc");
+    compiler.args(["-std=c11", "-Wall", "-Wextra", "-Wpedantic", "-Werror", "-I"]).arg(here.join("../include"));
+    run(compiler.arg(here.join("tests/header.c")).arg(differential::archive()).arg("-o").arg(&program));
+    assert_eq!(run(&mut Command::new(&program)), RIGHT);
+}
+
+/// Every function on texts that ask for much, in threads whose whole stack is 64 KiB and what a Rust thread itself takes.
+#[test]
+fn in_64_kib_of_stack() {
+    let deep = limits::limits().into_iter().find(|l| l.name == "operators on each path").unwrap().at;
+    for text in [deep, limits::widest(), limits::most_statements(), limits::activations(8), limits::of_length(32_768)] {
+        let mut values = reference::read(&text).unwrap().starting_values();
+        let (mut image, mut lines) = (vec![0; wrapper::LONGEST_IMAGE], vec![0; wrapper::LONGEST_TABLES]);
+        let work = || {
+            assert!(wrapper::check(&text).is_ok() && wrapper::compile(&text, &mut image).is_ok());
+            assert!(wrapper::statement_fault(&text, 0).is_ok() && !wrapper::statement(&text, 0).is_empty());
+            assert!(wrapper::print_tables(&text, &mut lines) > 0 && wrapper::starting_values(&text, &mut values).is_ok());
+            let mut machine = Machine::start(&text, &mut values).unwrap();
+            machine.begin(0).unwrap();
+            machine.send(0, Target::Domain(0), 0, 1).unwrap();
+            while machine.step(0) == Ok(Step::Going) {}
+            let _ = machine.abort(0);
+        };
+        std::thread::scope(|scope| {
+            std::thread::Builder::new().stack_size(72 * 1_024).spawn_scoped(scope, work).unwrap().join().unwrap();
+        });
+    }
+}

@@ -1,0 +1,146 @@
+/* The entries over a class text and the lock machine, for C: what each function needs, what it answers, and every number
+ * it can give. `rt staticlib abi` proves the functions and writes target/staticlib/libabi.a; link that file, nothing else
+ * is needed.
+ *
+ * A slice is a pointer and the count of its elements. Every call needs, and nothing checks:
+ *  - no pointer is null, not even one with the count 0; each is aligned for its elements, and all elements are set;
+ *  - what is written (no `const`) overlaps nothing else that the same call is lent;
+ *  - while the call runs, no one else writes what it is lent, or reads what it writes;
+ *  - 64 KiB of free stack.
+ * A text is never altered, and need not be a good one: any bytes get an answer. No call keeps a pointer, allocates, or
+ * touches memory that it is not lent. Calls on different memory may run at the same time. Every call ends.
+ *
+ * Lines are numbered from 1, statements from 0. The numbers of a text's own fault, always tested before any other:
+ *   11  text longer than 32,768 bytes (line 0)
+ *   12  a line in no allowed form or place, a last line without LF, or a missing `end` (one past the last line)
+ *   13  a name repeated where it must be new
+ *   14  unknown class, field or method
+ *   15  two parents bring different fields of one name
+ *   16  a prefix class that is known, but no proper ancestor
+ *   17  too many classes, objects, fields, methods, parents, statements or values
+ */
+#ifndef CISHMOLAQ_H
+#define CISHMOLAQ_H
+
+#include <stddef.h>
+#include <stdint.h>
+
+#ifdef __cplusplus
+extern "C" {
+#endif
+
+/* The longest text, in bytes. */
+#define CISHMOLAQ_LONGEST_TEXT 32768
+/* No text has a longer image, prints more, or has more values: buffers of these sizes always do. */
+#define CISHMOLAQ_LONGEST_IMAGE 38936
+#define CISHMOLAQ_LONGEST_TABLES 51200
+#define CISHMOLAQ_MOST_VALUES 2048
+
+/* The verdict on a text.
+ * Answers 0 if it is accepted, *line being 0; else 11 to 17, *line being the line of the fault. */
+uint32_t cishmolaq_check(const uint8_t *text, size_t text_length, size_t *line);
+
+/* Writes the image of a text into the front of `image`; what lies past it is left as it was.
+ * Answers 0, *detail being the image's length in bytes; or, with nothing written,
+ *   11 to 17, *detail being the line;
+ *   21  the buffer is shorter than the image, *detail being 0. */
+uint32_t cishmolaq_compile(const uint8_t *text, size_t text_length, uint8_t *image, size_t image_length, size_t *detail);
+
+/* A statement by its count, as a part of the text: it begins at text + the answer and has *size bytes, LF excluded.
+ * The part lies within the text. Where the look-up is refused the answer and *size are 0: ask cishmolaq_statement_fault. */
+size_t cishmolaq_statement(const uint8_t *text, size_t text_length, uint32_t count, size_t *size);
+
+/* The number of looking up that statement.
+ * Answers 0 if the text has it, *line being 0; or
+ *   11 to 17, *line being the line;
+ *   23  the text has no more than `count` statements, *line being 0. */
+uint32_t cishmolaq_statement_fault(const uint8_t *text, size_t text_length, uint32_t count, size_t *line);
+
+/* Writes the text's starting values, object by object.
+ * Answers 0, all values being written and *line being 0; or, with nothing written,
+ *   11 to 17, *line being the line;
+ *   22  `value_count` is not the count of all objects' fields, *line being 0. */
+uint32_t cishmolaq_starting_values(const uint8_t *text, size_t text_length, uint32_t *values, size_t value_count, size_t *line);
+
+/* Writes what `tables` prints for a text (a line for each class and method, or one `refused` line) into the front of
+ * `out`, as far as there is room; what lies past it is left as it was.
+ * Answers the length of what is printed, which is more than `out_length` where there was no room for all. */
+size_t cishmolaq_print_tables(const uint8_t *text, size_t text_length, uint8_t *out, size_t out_length);
+
+/* ---- The lock machine
+ *
+ * A machine is a text, a state and a list of values, all lent to each call. Start fills the state; from then on the caller
+ * passes the same three, unaltered by anyone else, to every call. The state's words mean nothing to the caller
+ * (docs/STATE.md has them). The values may be read between calls: object by object, each object's fields in order.
+ *
+ * Slots 0 to 7 each hold at most one open transaction. Places are numbered from 0: objects and classes in text order, methods
+ * in the method order of the object's class or of the named class.
+ *
+ * Every call answers a number and sets *detail:
+ *    0  done (a send: granted)
+ *    1  going
+ *    2  the message's answer is in *detail
+ *   21  `state_words` is below CISHMOLAQ_STATE_WORDS
+ *   22  `value_count` is not the count of all objects' fields
+ *   24  text, values and state do not fit
+ *   31  slot above 7
+ *   32  slot not open
+ *   33  slot open
+ *   34  message running
+ *   35  no message running
+ *   36  no such object, class or method
+ *   40  another slot's locks clash; the lowest such slot is in *detail
+ *   41  stopped; the transaction is undone and its slot is free
+ * *detail is 0 beside any number but 2 and 40. The numbers 21 to 36 are tested in this order; with them and with 40 nothing is
+ * altered. 21, 22 and 24 are given only where a call is lent something other than start and the calls left. On such memory a
+ * call may also go on by the rules on what it finds; it ends, and touches nothing but what it is lent.
+ */
+
+/* The length of a state in words of 32 bits, the same for every text; a longer one is good too, and its rest is left alone. */
+#define CISHMOLAQ_STATE_WORDS 26184
+
+/* Whom a send names. */
+#define CISHMOLAQ_OBJECT 0 /* an object */
+#define CISHMOLAQ_CLASS 1  /* a class's own objects */
+#define CISHMOLAQ_DOMAIN 2 /* the objects of a class and of all its descendants */
+
+/* Starts a machine on a text and a list of values, which is taken as it is: fills the state, with all slots free.
+ * Answers 0, *line being 0; or, with nothing written,
+ *   11 to 17, *line being the line;
+ *   21  the state is too short, *line being 0;
+ *   22  `value_count` is not the count of all objects' fields, *line being 0. */
+uint32_t cishmolaq_start(const uint8_t *text, size_t text_length, const uint32_t *values, size_t value_count, uint32_t *state,
+                         size_t state_words, size_t *line);
+
+/* Opens a slot for a transaction.
+ * Answers 0; or 21, 22, 24, 31, 33. */
+uint32_t cishmolaq_begin(const uint8_t *text, size_t text_length, uint32_t *state, size_t state_words, const uint32_t *values,
+                         size_t value_count, uint32_t slot, uint32_t *detail);
+
+/* Sends the method at a place, with an argument, to the target with this kind and number. A granted send has its locks until
+ * commit or abort (or 41), and its message is at its start. Any kind above 2 names nothing: 36.
+ * Answers 0; or 21, 22, 24, 31, 32, 34, 36, 40. */
+uint32_t cishmolaq_send(const uint8_t *text, size_t text_length, uint32_t *state, size_t state_words, const uint32_t *values,
+                        size_t value_count, uint32_t slot, uint32_t kind, uint32_t number, uint32_t method, uint32_t argument,
+                        uint32_t *detail);
+
+/* Runs one statement of the slot's message, or ends a body.
+ * Answers 1, 2 or 41; or 21, 22, 24, 31, 32, 35. */
+uint32_t cishmolaq_step(const uint8_t *text, size_t text_length, uint32_t *state, size_t state_words, uint32_t *values,
+                        size_t value_count, uint32_t slot, uint32_t *detail);
+
+/* Frees the slot and leaves the values.
+ * Answers 0; or 21, 22, 24, 31, 32, 34. */
+uint32_t cishmolaq_commit(const uint8_t *text, size_t text_length, uint32_t *state, size_t state_words, const uint32_t *values,
+                          size_t value_count, uint32_t slot, uint32_t *detail);
+
+/* Puts back, in each field that the transaction set, the value before its first set, and frees the slot.
+ * Answers 0; or 21, 22, 24, 31, 32. */
+uint32_t cishmolaq_abort(const uint8_t *text, size_t text_length, uint32_t *state, size_t state_words, uint32_t *values,
+                         size_t value_count, uint32_t slot, uint32_t *detail);
+
+#ifdef __cplusplus
+}
+#endif
+
+#endif
