@@ -106,9 +106,14 @@ module _ (l : Library) (c : ℕ) (line : List ℕ) (at : ℕ) (behind : wordsAft
       ∙ ap (λ (ws : List (List ℕ)). numberIn l (calledBehind l c ws)) (sym (cons-after 32 line at h) ∙ behind)
       ∙ line-calls line l c s
 
-  pub callee-none : (s : Bool) → s ≡ isStatement (formOf (words line)) → (s && ltb at (length line)) ≡ false
-      → _≡_ {A = ℕ} 512 (numberIn l (callee l c (statementOf line .action)))
-  callee-none true e h =
-      ap (λ (ws : List (List ℕ)). numberIn l (calledBehind l c ws)) (sym (none-after 32 line at (ltb-false at (length line) h)) ∙ behind)
-      ∙ line-calls line l c (sym e)
-  callee-none false e h = line-calls-none line l c (sym e)
+  pub callee-idle : isStatement (formOf (words line)) ≡ false → _≡_ {A = ℕ} 512 (numberIn l (callee l c (statementOf line .action)))
+  callee-idle e = line-calls-none line l c e
+
+  pub callee-none : length line ≤ at → _≡_ {A = ℕ} 512 (numberIn l (callee l c (statementOf line .action)))
+  callee-none h = go (isStatement (formOf (words line))) refl
+    where
+      go : (s : Bool) → isStatement (formOf (words line)) ≡ s → _≡_ {A = ℕ} 512 (numberIn l (callee l c (statementOf line .action)))
+      go true e =
+          ap (λ (ws : List (List ℕ)). numberIn l (calledBehind l c ws)) (sym (none-after 32 line at h) ∙ behind)
+          ∙ line-calls line l c e
+      go false e = callee-idle e

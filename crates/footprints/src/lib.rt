@@ -71,8 +71,12 @@ fn field_mask(text: &[u8], tables: &[u32], class: u32, word: &[u8]) -> u32
 fn counted_mask(text: &[u8], tables: &[u32], class: u32, word: &[u8], on: bool) -> u32
     ensures { λ r. ⌜ r ≡ mask (map (λ f. on && isName (now (word .entry)) && same f (now (word .entry))) (fieldsIn (now (text .entry)) (now (tables .entry)) class)) ⌝ }
 {
-    if on & lex::is_name(word) {
-        field_mask(text, tables, class, word)
+    if on {
+        if lex::is_name(word) {
+            field_mask(text, tables, class, word)
+        } else {
+            0
+        }
     } else {
         0
     }
@@ -185,8 +189,12 @@ pub fn line_callee(text: &[u8], tables: &[u32], class: u32, line: &[u8]) -> u32
     ensures { λ r. ⌜ r ≡ numberIn (libraryOf (now (text .entry)) (now (tables .entry))) (callee (libraryOf (now (text .entry)) (now (tables .entry))) class (statementOf (now (line .entry)) .action)) ⌝ }
 {
     let at = send_end(line);
-    if is_statement(line) & (at < line.len()) {
-        target_number(text, tables, class, lex::word_after(line, at))
+    if at < line.len() {
+        if is_statement(line) {
+            target_number(text, tables, class, lex::word_after(line, at))
+        } else {
+            NONE
+        }
     } else {
         NONE
     }

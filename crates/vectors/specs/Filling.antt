@@ -31,6 +31,17 @@ use Rattle.vectors.specs.Filled.{Within, OnlyMasks, within-none, within-
 abbrev pub withVector : List ℕ → ℕ → ℕ → Vector → List ℕ
 withVector ws c j v = set (set ws (8 + (c * 232 + (136 + j))) (onlyReads v)) (8 + (c * 232 + (168 + j))) (v .writes)
 
+-- It alters masks of its class.
+pub vector-within : (ws : List ℕ) (c j : ℕ) (v : Vector) → j < 32 → MasksOf c ws (withVector ws c j v)
+vector-within ws c j v h =
+    let from = 144 + c * 232 in
+    let end = 240 + c * 232 in
+    let read = 8 + (c * 232 + (136 + j)) in
+    let write = 8 + (c * 232 + (168 + j)) in
+    within-then from end
+    (within-set from end ws read (onlyReads v) (omega arith) (omega arith))
+    (within-set from end (set ws read (onlyReads v)) write (v .writes) (omega arith) (omega arith))
+
 -- The read and the write mask of method j of class c, where the class's methods have the vectors vs.
 pub record TwoMasks (vs : List model.Vector) (c j : ℕ) (ws : List ℕ) : Type 0 where
   pub read : classWord ws c (136 + j) ≡ readMask (getD vs j [])
@@ -97,13 +108,8 @@ module _ (text ws : List ℕ) (c n : ℕ) (ws₁ : List ℕ) (i : TwoTo text ws 
   -- One more.
   pub two-more : (ws₂ : List ℕ) → VectorFound text ws₁ c n v → ws₂ ≡ after → TwoTo text ws c (n + 1) ws₂
   two-more ws₂ found q =
-      let f = few in
-      let from = 144 + c * 232 in
-      let end = 240 + c * 232 in
       subst (TwoTo text ws c (n + 1)) (sym q) (record {
-        within = within-then from end (i .within) (within-then from end
-            (within-set from end ws₁ (readAt n) (onlyReads v) (omega arith) (omega arith))
-            (within-set from end (set ws₁ (readAt n) (onlyReads v)) (writeAt n) (v .writes) (omega arith) (omega arith)));
+        within = within-then (144 + c * 232) (240 + c * 232) (i .within) (vector-within ws₁ c n v few);
         masks = λ size known j h. go size known j h (eqb j n) refl;
       })
     where

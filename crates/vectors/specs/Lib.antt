@@ -8,3 +8,4 @@ pub mod Commuting
 pub mod Closure
 pub mod Filled
 pub mod Filling
+pub mod Memo

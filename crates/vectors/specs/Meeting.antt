@@ -23,15 +23,17 @@ module _ (text ws : List ℕ) (c first : ℕ) where
   abbrev number : Statement → ℕ
   number s = numberIn (libraryOf text ws) (callee (libraryOf text ws) c (s .action))
 
-  -- A turn of the loop.
-  pub one-more-met : (n y : ℕ) (line : List ℕ) (ms₀ ms ms′ : List ℕ) → ms ≡ touched (callAt text ws c first) n ms₀ → line ≡ partOf text (statementWord ws (first + n))
-      → y ≡ numberIn (libraryOf text ws) (callee (libraryOf text ws) c (statementOf line .action)) → ms′ ≡ touch y ms → ms′ ≡ touched (callAt text ws c first) (n + 1) ms₀
+  -- The line of a statement says what it calls.
+  pub call-found : (i y : ℕ) (line : List ℕ) → line ≡ partOf text (statementWord ws (first + i))
+      → y ≡ numberIn (libraryOf text ws) (callee (libraryOf text ws) c (statementOf line .action)) → y ≡ callAt text ws c first i
   unfolding callAt
-  one-more-met n y line ms₀ ms ms′ e q k r =
-      r
-      ∙ ap (λ (x : ℕ). touch x ms) (k ∙ ap number (line-says-it text ws first n line q))
-      ∙ ap (touch (callAt text ws c first n)) e
-      ∙ touched-more (callAt text ws c first) n ms₀
+  call-found i y line e k = k ∙ ap number (line-says-it text ws first i line e)
+
+  -- A turn of the loop.
+  pub one-more-met : (n y : ℕ) (ms₀ ms ms′ : List ℕ) → ms ≡ touched (callAt text ws c first) n ms₀ → y ≡ callAt text ws c first n → ms′ ≡ touch y ms
+      → ms′ ≡ touched (callAt text ws c first) (n + 1) ms₀
+  one-more-met n y ms₀ ms ms′ e k r =
+      r ∙ ap (λ (x : ℕ). touch x ms) k ∙ ap (touch (callAt text ws c first n)) e ∙ touched-more (callAt text ws c first) n ms₀
 
   -- Its end.
   pub calls-met : (x n size : ℕ) (ms ms′ : List ℕ) → n ≡ size

@@ -84,6 +84,13 @@ module _ (text ws : List ℕ) (c : ℕ) (n : Name) where
   pub known-number : among methods n ≡ true → Known (numberOf library (record { class = c; method = n }))
   known-number t = has-number t (numberOf library (record { class = c; method = n })) (number-if true t)
 
+  pub vertex-le : numberOf library (record { class = c; method = n }) ≤ 512
+  vertex-le = go (among methods n) refl
+    where
+      go : (t : Bool) → among methods n ≡ t → numberOf library (record { class = c; method = n }) ≤ 512
+      go true t = let k = known-number t in omega (arith, k .known, k .number)
+      go false t = omega (arith, number-if false t)
+
   module _ (x : ℕ) (k : Known x) where
     at-place : getD methods (memberPlace methods n) noMember ≡ memberAt text ws c 1 (x % 32)
     at-place =

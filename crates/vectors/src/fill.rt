@@ -2,7 +2,7 @@
 // with.
 use super::closure::vector_of;
 use footprints::Vector;
-ghost use Prim.Native.Nat.{_+_, _*_};
+ghost use Prim.Native.Nat.{_+_, _*_, _<_};
 ghost use mathlib.Core.Path.{_≡_};
 ghost use mathlib.Core.Bool.{true};
 ghost use mathlib.Core.List.{[]};
@@ -93,12 +93,15 @@ fn commuting_mask(tables: &[u32], class: u32, method: u32) -> u32
 
 // The vectors of a class's methods stored.
 fn fill_masks(text: &[u8], tables: &mut [u32], class: u32)
+    requires { ⌜ class < 16 ⌝ }
     ensures { λ r. ⌜ TwoTo (now (text .entry)) (now (tables .entry)) class (memberCount (now (tables .entry)) class 1) (now (tables .exit)) ⌝ }
 {
     let count = words::member_count(tables, class, 1);
+    let mut bodies = [0u32; 2560];
+    let mut callees = [0u32; 4096];
     let mut method = 0;
     while method < count {
-        let vector = vector_of(text, tables, class, method);
+        let vector = vector_of(text, tables, class, method, &mut bodies, &mut callees);
         put_vector(tables, class, method, vector);
         method += 1;
     }
@@ -119,6 +122,7 @@ fn fill_commuting(tables: &mut [u32], class: u32)
 
 // The masks of a class's methods stored.
 fn fill_class(text: &[u8], tables: &mut [u32], class: u32)
+    requires { ⌜ class < 16 ⌝ }
     ensures { λ r. ⌜ ClassFilled (now (text .entry)) (now (tables .entry)) class (now (tables .exit)) ⌝ }
 {
     fill_masks(text, tables, class);

@@ -3,3 +3,4 @@
 mod body;
 mod closure;
 pub mod fill;
+mod memo;

@@ -1,41 +1,31 @@
--- `next_met` meets its contract: none of the methods passed is to be followed.
+-- `next_met` meets its contract: what the stack says is tried by its mark.
 use borrow.Author.Needs.{needs}
-use borrow.Author.Count.{below-more}
-use Prim.Native.Nat.{ℕ, _-_, _≤_, _<_}
-use mathlib.Core.Path.{_≡_, sym, _∙_}
+use borrow.Author.Tests.{ltb-true, eqb-true}
+use mathlib.Core.Path.{sym, _∙_}
 use native.Mathlib.Omega.{arith}
-use lib.ListN.{getD}
+use lib.Dec.{ltb, eqb}
+use Rattle.theory.specs.ListLaws.{both-left, both-right}
 use Rattle.vectors.proofs.closure.next_met.Statement.{statement}
 use Rattle.vectors.proofs.closure.next_met.Tie as tie
 
-abbrev Inv-loop : tie.InvT-loop
-Inv-loop marks node₀ node = (node ≤ 512) × ((x : ℕ) → x < node → getD marks x 0 ≡ 1 → ⊥)
-
-abbrev μ-loop : tie.MeasureT-loop
-μ-loop marks node₀ node = 512 - node
-
-loop-holds : tie.Need-loop-holds Inv-loop μ-loop
-loop-holds c = (omega arith, λ x h e. omega arith)
-
-returns : tie.Need-returns Inv-loop μ-loop
-returns c = record { met = λ h. sym (c .before .mark-of .ensures) ∙ c .if1 .taken; none = λ h. absurd (omega arith) }
-
-loop-again : tie.Need-loop-again Inv-loop μ-loop
-loop-again c = (omega arith, below-more _ _ (c .before .before .before .loop .inv .1) (λ e. c .if1 .left (c .before .mark-of .ensures ∙ e)))
-
-returns-2 : tie.Need-returns-2 Inv-loop μ-loop
-returns-2 c = record { met = λ h. absurd (omega arith); none = λ h x l. c .before .loop .inv .1 x (omega arith) }
+returns : tie.Need-returns
+returns c =
+    let m = c .before .mark-of in
+    let p = c .before .before .before .before .pop in
+    let low = ltb (p .result) 512 in
+    let met = eqb (m .result) 1 in
+    let h = ltb-true (p .result) 512 (both-left low met (c .if1 .taken)) in
+    let e = eqb-true (m .result) 1 (both-right low met (c .if1 .taken)) in
+    (record { met = λ l. sym (m .ensures) ∙ e; none = λ l. absurd (omega arith) }, p .ensures)
 
 pub next-met-spec : {M : Type 1} → statement M
 next-met-spec =
     tie.close
     (tie.spec
-    Inv-loop
-    μ-loop
-    loop-holds
     (λ c κs. search needs)
+    (λ c κs. search needs)
+    (λ c κs. search needs)
+    (λ c. search needs)
     returns
     (λ c. search needs)
-    (λ c. search needs)
-    loop-again
-    returns-2)
+    (λ c. search needs))

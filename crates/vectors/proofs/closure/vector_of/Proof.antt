@@ -6,10 +6,13 @@ use Rattle.vectors.proofs.closure.vector_of.Tie as tie
 
 returns : tie.Need-returns
 returns c =
-    let k = c .before .before .before in
-    let m = k .before .before .before in
-    let a = m .before .before .before .before .args in
-    vector-found (a .text .now) (a .tables .now) (a .class) (a .place) _ _ (c .marked-vector .result) (m .meet .ensures) (k .close .ensures) (c .marked-vector .ensures)
+    let v = c .before .before in
+    let k = v .before .before .before .before .before .before .before .before .before in
+    let m = k .before .before .before .before .before .before .before in
+    let a = m .before .before .before .before .before .before .before .args in (
+      vector-found (a .text .now) (a .tables .now) (a .class) (a .place) _ _ (v .marked-vector .result) (m .meet .ensures .0) (k .close .ensures .0) (v .marked-vector .ensures .0),
+      record { bodies = v .marked-vector .ensures .1; callees = k .close .ensures .1 .callees },
+    )
 
 pub vector-of-spec : {M : Type 1} → statement M
 vector-of-spec =
@@ -18,9 +21,13 @@ vector-of-spec =
     (λ c. search needs)
     (λ c. search needs)
     (λ c. search needs)
+    (λ c. search needs)
     (λ c κs. search needs)
+    (λ c. search needs)
     (λ c. search needs)
     (λ c κs. search needs)
     (λ c. search needs)
     (λ c κs. search needs)
+    (λ c. search needs)
+    (λ c. search needs)
     returns)
