@@ -6,7 +6,7 @@
  *  - no pointer is null, not even one with the count 0; each is aligned for its elements, and all elements are set;
  *  - what is written (no `const`) overlaps nothing else that the same call is lent;
  *  - while the call runs, no one else writes what it is lent, or reads what it writes;
- *  - 64 KiB of free stack.
+ *  - 96 KiB of free stack.
  * A text is never altered, and need not be a good one: any bytes get an answer. No call keeps a pointer, allocates, or
  * touches memory that it is not lent. Calls on different memory may run at the same time. Every call ends.
  *

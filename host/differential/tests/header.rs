@@ -47,9 +47,9 @@ fn a_c_program() {
     assert_eq!(run(&mut Command::new(&program)), RIGHT);
 }
 
-/// Every function on texts that ask for much, in threads whose whole stack is 64 KiB and what a Rust thread itself takes.
+/// Every function on texts that ask for much, in threads whose whole stack is 96 KiB and what a Rust thread itself takes.
 #[test]
-fn in_64_kib_of_stack() {
+fn in_96_kib_of_stack() {
     let deep = limits::limits().into_iter().find(|l| l.name == "operators on each path").unwrap().at;
     for text in [deep, limits::widest(), limits::most_statements(), limits::activations(8), limits::of_length(32_768)] {
         let mut values = reference::read(&text).unwrap().starting_values();
@@ -65,7 +65,7 @@ fn in_64_kib_of_stack() {
             let _ = machine.abort(0);
         };
         std::thread::scope(|scope| {
-            std::thread::Builder::new().stack_size(72 * 1_024).spawn_scoped(scope, work).unwrap().join().unwrap();
+            std::thread::Builder::new().stack_size(104 * 1_024).spawn_scoped(scope, work).unwrap().join().unwrap();
         });
     }
 }
