@@ -35,11 +35,20 @@ fn times_for(one: &mut dyn FnMut() -> bool) -> usize {
     (ROUND / first).clamp(1.0, 1e6) as usize
 }
 
-pub fn both(mut ours: impl FnMut() -> bool, mut second: impl FnMut() -> bool) -> (Time, Time) {
+pub fn both(ours: impl FnMut() -> bool, second: impl FnMut() -> bool) -> (Time, Time) {
+    in_turn(ours, second, ROUNDS)
+}
+
+/// The same with few rounds, where there are many texts.
+pub fn shortly(ours: impl FnMut() -> bool, second: impl FnMut() -> bool) -> (Time, Time) {
+    in_turn(ours, second, 5)
+}
+
+fn in_turn(mut ours: impl FnMut() -> bool, mut second: impl FnMut() -> bool, rounds: usize) -> (Time, Time) {
     let (a, b) = (times_for(&mut ours), times_for(&mut second));
     let from = Instant::now();
     let mut least = (f64::MAX, f64::MAX);
-    for round in 0..ROUNDS {
+    for round in 0..rounds {
         least = (least.0.min(repeated(&mut ours, a)), least.1.min(repeated(&mut second, b)));
         if round > 0 && from.elapsed().as_nanos() as f64 > LONGEST {
             break;

@@ -1,35 +1,36 @@
 //! How fast the proved library is: beside the second implementation, both in turn in one run, and, where its program is named
 //! as the argument, beside Berkeley DB's lock subsystem. Prints the tables of docs/PERFORMANCE.md.
+//!   benchmark [PROGRAM]
+//!   benchmark profile    makes some of each call once, for callgrind
 
 mod clock;
 mod texts;
 
 use clock::{both, each, shown, Time};
 use reference::machine::{Call, Target};
-use std::hint::black_box;
 use wrapper::machine::{lent, STATE_WORDS};
 
 /// A row of a table: what, on which text, the two times and their ratio.
 fn row(what: &str, on: &str, times: (Time, Time)) {
-    println!("| {what} | {on} | {} | {} | {:.2} |", shown(times.0), shown(times.1), times.0 / times.1);
+    println!("| {what} | {on} | {} | {} | {:.3} |", shown(times.0), shown(times.1), times.0 / times.1);
 }
 
 fn reading(samples: &[(String, Vec<u8>)]) {
     let mut image = vec![0; wrapper::LONGEST_IMAGE];
     for (name, text) in samples {
-        row("check", name, both(|| black_box(wrapper::check(text).is_ok()), || black_box(reference::read(text).is_ok())));
+        row("check", name, both(|| wrapper::check(text).is_ok(), || reference::read(text).is_ok()));
     }
     for (name, text) in samples {
-        let ours = || black_box(wrapper::compile(text, &mut image).is_ok());
-        row("compile", name, both(ours, || black_box(reference::image::image(text).is_ok())));
+        let ours = || wrapper::compile(text, &mut image).is_ok();
+        row("compile", name, both(ours, || reference::image::image(text).is_ok()));
     }
     for (name, text) in samples {
         let values = reference::read(text).unwrap().starting_values();
         let mut state = vec![0; STATE_WORDS];
-        let ours = || black_box(lent::start(text, &values, &mut state).is_ok());
+        let ours = || lent::start(text, &values, &mut state).is_ok();
         let second = || {
             let library = reference::read(text).unwrap();
-            black_box(reference::machine::Machine::start(&library, &values).is_some())
+            reference::machine::Machine::start(&library, &values).is_some()
         };
         row("start", name, both(ours, second));
     }
@@ -71,12 +72,15 @@ fn machine(samples: &[(String, Vec<u8>)]) {
     }
 }
 
+/// A call on slot 0, on a text, a state and values.
+type OneCall = fn(&[u8], &mut [u32], &mut [u32]) -> lent::Outcome;
+
 /// A transaction of a send to an object whose method has an empty body, and its parts, beside Berkeley DB's lock subsystem.
 fn locks(program: Option<&String>) {
     let text = b"class a\nmethod m\nend\nobject o a\n";
     let (mut values, mut state) = ([0; 0], vec![0; STATE_WORDS]);
     lent::start(text, &values, &mut state).unwrap();
-    let mut made = |calls: &[fn(&[u8], &mut [u32], &mut [u32]) -> lent::Outcome]| {
+    let mut made = |calls: &[OneCall]| {
         each(|| calls.iter().map(|call| call(text, &mut state, &mut values)).last() == Some(lent::Outcome::Done))
     };
     let begin = |t: &[u8], s: &mut [u32], v: &mut [u32]| lent::begin(t, s, v, 0);
@@ -97,6 +101,21 @@ fn locks(program: Option<&String>) {
     }
 }
 
+/// How the ratio of compile is spread over generated texts of 20 to 32 KiB.
+fn spread() {
+    let mut image = vec![0; wrapper::LONGEST_IMAGE];
+    let large: Vec<Vec<u8>> = texts::large().into_iter().filter(|t| t.len() >= 20_480).collect();
+    let mut ratios: Vec<f64> = large.iter().map(|text| {
+        let ours = || wrapper::compile(text, &mut image).is_ok();
+        let (ours, second) = clock::shortly(ours, || reference::image::image(text).is_ok());
+        ours / second
+    }).collect();
+    ratios.sort_by(f64::total_cmp);
+    let above = ratios.iter().filter(|r| **r > 3.0).count();
+    println!("\n| compile of generated texts from 20 KiB | least | median | most | above 3 |\n|---|---|---|---|---|");
+    println!("| {} texts | {:.1} | {:.1} | {:.1} | {above} |", ratios.len(), ratios[0], ratios[ratios.len() / 2], ratios[ratios.len() - 1]);
+}
+
 fn growth() {
     println!("\n| check of | time | a byte |\n|---|---|---|");
     for kib in [1, 2, 4, 8, 16, 32] {
@@ -106,11 +125,32 @@ fn growth() {
     }
 }
 
+/// Some of each call: what callgrind is to look at.
+fn profile() {
+    let mut image = vec![0; wrapper::LONGEST_IMAGE];
+    wrapper::compile(&texts::large()[0], &mut image).unwrap();
+    for (_, text) in texts::messages() {
+        let mut values = reference::read(&text).unwrap().starting_values();
+        let mut machine = wrapper::machine::Machine::start(&text, &mut values).unwrap();
+        for _ in 0..100 {
+            machine.begin(0).unwrap();
+            machine.send(0, wrapper::machine::Target::Object(0), 0, 3).unwrap();
+            while machine.step(0) == Ok(wrapper::machine::Step::Going) {}
+            machine.commit(0).unwrap();
+        }
+    }
+}
+
 fn main() {
+    let word = std::env::args().nth(1);
+    if word.as_deref() == Some("profile") {
+        return profile();
+    }
     let samples = texts::samples();
     println!("| what | on | ours | second | ratio |\n|---|---|---|---|---|");
     reading(&samples);
     machine(&samples);
+    spread();
     growth();
-    locks(std::env::args().nth(1).as_ref());
+    locks(word.as_ref());
 }

@@ -1,22 +1,27 @@
 //! The texts that are timed.
 
-use generate::text::{text, LARGE, MIDDLE};
+use generate::text::{text, Size, LARGE, MIDDLE};
 use generate::{limits, Random};
 
 pub const SAMPLE: &[u8] = include_bytes!("../../../samples/lanes.txt");
 
-/// The longest of some generated texts.
-fn longest(size: generate::text::Size, below: usize) -> Vec<u8> {
-    let made = (0..200).map(|seed| text(&mut Random::new(seed), size)).filter(|t| t.len() <= below);
-    made.max_by_key(Vec::len).unwrap()
+/// Generated texts, the longest first.
+fn generated(size: Size) -> Vec<Vec<u8>> {
+    let mut made: Vec<Vec<u8>> = (0..100).map(|seed| text(&mut Random::new(seed), size)).collect();
+    made.sort_by_key(|t| std::cmp::Reverse(t.len()));
+    made
+}
+
+pub fn large() -> Vec<Vec<u8>> {
+    generated(LARGE)
 }
 
 /// The sample, a middling text, and the largest of several shapes, with their names.
 pub fn samples() -> Vec<(String, Vec<u8>)> {
     let named = [
         ("the sample", SAMPLE.to_vec()),
-        ("middling", longest(MIDDLE, 6_000)),
-        ("generated, large", longest(LARGE, 32_768)),
+        ("middling", generated(MIDDLE).swap_remove(0)),
+        ("generated, large", large().swap_remove(0)),
         ("32 KiB of sets", limits::of_length(32_768)),
         ("most statements", limits::most_statements()),
         ("widest", limits::widest()),

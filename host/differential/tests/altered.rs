@@ -163,7 +163,8 @@ fn refused(text: &[u8], state: &[u32], values: &[u32], number: u32) {
     let mut memory = Memory::new(text, state, values);
     for slot in [0, 1, 7, 8, u32::MAX] {
         for call in calls_after(slot % 8).into_iter().chain([Call::Begin(slot), Call::Step(slot)]) {
-            assert_eq!(memory.call(call), Answer::Refused(number), "{call:?} on {} bytes, {} words, {} values", text.len(), state.len(), values.len());
+            let lengths = (text.len(), state.len(), values.len());
+            assert_eq!(memory.call(call), Answer::Refused(number), "{call:?} on {lengths:?} bytes, words and values");
         }
     }
 }

@@ -17,14 +17,34 @@ mod entries {
         pub fn cishmolaq_compile(text: *const u8, text_length: usize, image: *mut u8, image_length: usize, detail: *mut usize) -> u32;
         pub fn cishmolaq_statement(text: *const u8, text_length: usize, count: u32, size: *mut usize) -> usize;
         pub fn cishmolaq_statement_fault(text: *const u8, text_length: usize, count: u32, line: *mut usize) -> u32;
-        pub fn cishmolaq_starting_values(text: *const u8, text_length: usize, values: *mut u32, value_count: usize, line: *mut usize) -> u32;
+        pub fn cishmolaq_starting_values(
+            text: *const u8, text_length: usize, values: *mut u32, value_count: usize, line: *mut usize,
+        ) -> u32;
         pub fn cishmolaq_print_tables(text: *const u8, text_length: usize, out: *mut u8, out_length: usize) -> usize;
-        pub fn cishmolaq_start(text: *const u8, text_length: usize, values: *const u32, value_count: usize, state: *mut u32, state_words: usize, line: *mut usize) -> u32;
-        pub fn cishmolaq_begin(text: *const u8, text_length: usize, state: *mut u32, state_words: usize, values: *const u32, value_count: usize, slot: u32, detail: *mut u32) -> u32;
-        pub fn cishmolaq_send(text: *const u8, text_length: usize, state: *mut u32, state_words: usize, values: *const u32, value_count: usize, slot: u32, kind: u32, named: u32, method: u32, argument: u32, detail: *mut u32) -> u32;
-        pub fn cishmolaq_step(text: *const u8, text_length: usize, state: *mut u32, state_words: usize, values: *mut u32, value_count: usize, slot: u32, detail: *mut u32) -> u32;
-        pub fn cishmolaq_commit(text: *const u8, text_length: usize, state: *mut u32, state_words: usize, values: *const u32, value_count: usize, slot: u32, detail: *mut u32) -> u32;
-        pub fn cishmolaq_abort(text: *const u8, text_length: usize, state: *mut u32, state_words: usize, values: *mut u32, value_count: usize, slot: u32, detail: *mut u32) -> u32;
+        pub fn cishmolaq_start(
+            text: *const u8, text_length: usize, values: *const u32, value_count: usize, state: *mut u32,
+            state_words: usize, line: *mut usize,
+        ) -> u32;
+        pub fn cishmolaq_begin(
+            text: *const u8, text_length: usize, state: *mut u32, state_words: usize, values: *const u32,
+            value_count: usize, slot: u32, detail: *mut u32,
+        ) -> u32;
+        pub fn cishmolaq_send(
+            text: *const u8, text_length: usize, state: *mut u32, state_words: usize, values: *const u32,
+            value_count: usize, slot: u32, kind: u32, named: u32, method: u32, argument: u32, detail: *mut u32,
+        ) -> u32;
+        pub fn cishmolaq_step(
+            text: *const u8, text_length: usize, state: *mut u32, state_words: usize, values: *mut u32, value_count: usize,
+            slot: u32, detail: *mut u32,
+        ) -> u32;
+        pub fn cishmolaq_commit(
+            text: *const u8, text_length: usize, state: *mut u32, state_words: usize, values: *const u32,
+            value_count: usize, slot: u32, detail: *mut u32,
+        ) -> u32;
+        pub fn cishmolaq_abort(
+            text: *const u8, text_length: usize, state: *mut u32, state_words: usize, values: *mut u32, value_count: usize,
+            slot: u32, detail: *mut u32,
+        ) -> u32;
     }
 }
 
