@@ -57,7 +57,7 @@ start-again text count count′ size size′ e q h = go (read text) e
     go (accepted l) d = rw (le-ltb size′ stateWords h, q, by-count (ltb size stateWords) (eqb count (length (startingValues l))) d)
     go (refused n line) d = d
 
--- No slot is open.
+-- "leaves nothing open": the phase of each slot is 0, closed.
 abbrev pub NothingOpen : List ℕ → Type 0
 NothingOpen ws = (t : ℕ) → t < 8 → getD (rowOf ws t) 0 0 ≡ 0
 

@@ -17,15 +17,15 @@ use Rattle.cishmolaq.specs.Past.{past-kept}
 
 -- A call on a text, state words and values, with its answer and what it left.
 pub record Does (text ws values : List ℕ) (c : Call) (r : Outcome) (ws′ values′ : List ℕ) : Type 0 where
-  -- Whatever is lent, the answer and what is left are the definition's.
+  -- Demand 1: "a call gives 24 or follows the rules below on what it finds", whatever is lent, as the definition says.
   pub any : Leaves (called text ws values c) r ws′ values′
   -- What lies past the machine's words is as it was.
   pub past : drop stateWords ws′ ≡ drop stateWords ws
-  -- Where the words represent a world of the machine, the answer is the model's ..
+  -- Demand 2: on what start and the calls left, the words represent a world of the machine, and the answer is the model's ..
   pub says : (p : Program) (w : World (service p)) → Rep text ws values p w → Words.told (told r) ≡ call p w c .0
   -- .. what is left represents the world after the call ..
   pub next : (p : Program) (w : World (service p)) → Rep text ws values p w → Rep text ws′ values′ p (call p w c .1)
-  -- .. and 21, 22 and 24 are never given.
+  -- .. and 21, 22 and 24 are never given: "only where a call is lent something other than start and the machine's calls left".
   pub fits : (p : Program) (w : World (service p)) → Rep text ws values p w → (n : ℕ) → told r ≡ number n → 31 ≤ n
 
 -- What keeps to the definition keeps all of it.

@@ -1,4 +1,4 @@
--- Whom a send names, in the model's terms.
+-- "one target: an object; a class's own objects; or a class's domain", in the model's terms.
 use Rattle.model.specs.Machine as Model
 use Rattle.sends.specs.declared.Target.{Target}
 use Rattle.sends.specs.declared.Target.the-variants.{Object, Class, Domain}
