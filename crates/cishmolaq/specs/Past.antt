@@ -6,17 +6,18 @@ use mathlib.Core.Path.{_≡_, refl, _∙_}
 use mathlib.Core.Bool.{Bool, true, false, not, cond}
 use mathlib.Core.Option.{Option, none, some}
 use mathlib.Core.List.{List}
-use lib.ListN.{length, getD, drop, set, length-set, length-replicate}
+use lib.ListN.{length, getD, drop, set, length-set}
 use lib.Dec.{eqb, leb, ltb, eqb·suc-zero}
 use borrow.Author.Tests.{leb-false}
 use Rattle.model.specs.Base.{least}
 use Rattle.model.specs.Machine.{Call, begin, send, step, commit, abort, Request, to, object, class, domain}
 use Rattle.words.specs.View.{bit, objectWord, classCount, objectCount, memberCount}
-use Rattle.state.specs.Row.{Turn, misfit, stop, skip, assign, call, reply, back, next, answer, withAct, newAct, stepped, passed, notedRow, skipRow, callRow, replyRow, backRow, objectRow, blank, carried}
+use Rattle.state.specs.Row.{Turn, misfit, stop, skip, assign, call, reply, back, next, answer, withAct, newAct, stepped, passed, notedRow, skipRow, callRow, replyRow, backRow, objectRow, freed, carried}
 use Rattle.state.specs.Turn.{decided}
 use Rattle.state.specs.Request.{Wanted, locked, begunRow}
 use Rattle.state.specs.Calls.{After, stateWords, tablesOf, rowStart, rowOf, withRow, misfitOf, refused, wanted, inTheWay, grantedOr, sentTo, sentBy, onClosed, onIdle, onRunning, slotIn, byPhase, called}
 use Rattle.refine.specs.State.{fit-is}
+use Rattle.refine.specs.Freeing.{freed-long}
 use Rattle.slots.specs.Lent.{Within, row-size, drop-sets}
 use Rattle.sends.specs.Sent.{locked-length, begun-length}
 
@@ -37,7 +38,7 @@ noted-length row k v = go (ltb k 2048) (bit (getD row (152 + k / 32) 0) (k % 32)
 carried-length : (row values : List ℕ) (t : Turn) → length row ≡ 2264 → length (carried row values t .row) ≡ 2264
 unfolding carried skipRow callRow replyRow backRow objectRow newAct withAct stepped passed
 carried-length row values misfit h = h
-carried-length row values stop h = length-replicate {A = ℕ} 2264 0
+carried-length row values stop h = freed-long row h
 carried-length row values skip h = simp length-set h
 carried-length row values (assign k v) h = simp length-set (noted-length row k (getD values k 0) ∙ h)
 carried-length row values (call first end a) h = simp length-set h
@@ -102,15 +103,15 @@ module _ (text ws values : List ℕ) where
   closed-kept (commit s) h = refl
   closed-kept (abort s) h = refl
 
-  blank-kept : (s : ℕ) → Within ws s → drop stateWords (withRow ws s blank) ≡ drop stateWords ws
-  blank-kept s h = row-kept s h blank (length-replicate {A = ℕ} 2264 0)
+  freed-kept : (s : ℕ) → Within ws s → drop stateWords (withRow ws s (freed (rowOf ws s))) ≡ drop stateWords ws
+  freed-kept s h = row-kept s h (freed (rowOf ws s)) (freed-long (rowOf ws s) (own s h))
 
   idle-kept : (c : Call) → Within ws (slotIn c) → Kept (onIdle text ws values c)
   idle-kept (begin s) h = refl
   idle-kept (send s q) h = by-kept s h q
   idle-kept (step s) h = refl
-  idle-kept (commit s) h = blank-kept s h
-  idle-kept (abort s) h = blank-kept s h
+  idle-kept (commit s) h = freed-kept s h
+  idle-kept (abort s) h = freed-kept s h
 
   running-kept : (c : Call) → Within ws (slotIn c) → Kept (onRunning text ws values c)
   running-kept (begin s) h = refl
@@ -119,7 +120,7 @@ module _ (text ws values : List ℕ) where
       let t = decided text (tablesOf ws) (rowOf ws s) values in
       row-kept s h (carried (rowOf ws s) values t .row) (carried-length (rowOf ws s) values t (own s h))
   running-kept (commit s) h = refl
-  running-kept (abort s) h = blank-kept s h
+  running-kept (abort s) h = freed-kept s h
 
   phase-kept : (c : Call) → Within ws (slotIn c) → (a b : Bool) → Kept (cond a (onClosed ws values c) (cond b (onIdle text ws values c) (onRunning text ws values c)))
   phase-kept c h true b = closed-kept c h

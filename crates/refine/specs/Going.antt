@@ -14,10 +14,11 @@ use Rattle.model.specs.Message as Model
 use Rattle.model.specs.Undo.{noted, putBack}
 use Rattle.words.specs.View.{statementCount}
 use Rattle.twophase.specs.Base.{at-or}
-use Rattle.state.specs.Row.{going, halted, answered, Left, act, withAct, newAct, top, stepped, passed, noteAt, skipRow, callRow, replyRow, backRow, blank, goingTo}
-use Rattle.refine.specs.Rep.{targetBy, messageOf, between, activationOf, stackOf, objectsFrom, runOf, Running}
+use Rattle.state.specs.Row.{going, halted, answered, Left, act, withAct, newAct, top, stepped, passed, noteAt, skipRow, callRow, replyRow, backRow, freed, goingTo}
+use Rattle.refine.specs.Rep.{targetBy, messageOf, between, activationOf, stackOf, objectsFrom, runOf, Running, Clean}
 use Rattle.refine.specs.Runs.{Alike, between-none, activation-is, activation-same, stack-same, message-same, note-same, run-is}
 use Rattle.refine.specs.Stores.{else-word, new-word, act-length, act-other, act-opened, act-end}
+use Rattle.refine.specs.Freeing.{clean-alike}
 
 -- ---- what a step leaves, against the model's outcome
 
@@ -30,6 +31,7 @@ pub record Goes (text tables : List ℕ) (p : Program) (row values : List ℕ) (
   pub run : r ≡ runOf text p (x .row)
   pub runs : Running tables p (x .row)
   pub notes : (k : ℕ) → noteAt (x .row) k ≡ noted (noteAt row) e values k
+  pub clean : Clean row → Clean (x .row)
   pub locks : Alike 56 152 row (x .row)
 
 -- The message ends with its answer; all else is kept.
@@ -43,7 +45,7 @@ pub record Ends (row values : List ℕ) (x : Left) (v : ℕ) (e : Effect) : Type
 pub record Halts (row values : List ℕ) (x : Left) : Type 0 where
   pub said : x .said ≡ halted
   pub fields : x .values ≡ putBack (noteAt row) values
-  pub left : x .row ≡ blank
+  pub left : x .row ≡ freed row
 
 -- What a step leaves matches the outcome of the model's turn.
 abbrev pub Matches : List ℕ → List ℕ → Program → List ℕ → List ℕ → Left → Outcome → Type 0
@@ -93,6 +95,7 @@ module _ (text tables : List ℕ) (p : Program) (row values : List ℕ) (size : 
           domain = λ h. omega (arith, w6, runs .domain (omega (arith, w5)));
         };
         notes = note-same row row′ (λ i g h. o .tail i (omega arith) (omega arith));
+        clean = clean-alike row row′ (λ i g h. o .tail i (omega arith) (omega arith));
         locks = λ i g h. o .tail i g (omega arith);
       })
     where

@@ -4,6 +4,7 @@ pub mod Tables
 pub mod Objects
 pub mod Runs
 pub mod Stores
+pub mod Freeing
 pub mod Going
 pub mod Noting
 pub mod Visits

@@ -4,7 +4,7 @@ use native.Mathlib.Omega.{arith}
 use native.Mathlib.Decide.{ℕ-discrete}
 use mathlib.Core.Path.{_≡_, refl, sym, ap, ap₂, subst, _∙_}
 use mathlib.Core.Logic.{_≢_}
-use mathlib.Core.Bool.{Bool, true, false, cond, _||_, or-false, or-true}
+use mathlib.Core.Bool.{Bool, true, false, cond, _||_, or-false, or-true, true≢false}
 use mathlib.Core.Option.{Option, none, some}
 use mathlib.Core.List.{List, _∷_}
 use lib.ListN.{length, getD, set, length-set}
@@ -20,7 +20,7 @@ use Rattle.words.specs.Bits.{bit-or}
 use Rattle.twophase.specs.Base.{at-or, put-same, put-other, put-id}
 use Rattle.theory.specs.ListLaws.{eqb-same}
 use Rattle.state.specs.Row.{act, noteIf, noteAt, notedRow, skipRow, goingTo}
-use Rattle.refine.specs.Rep.{between, activationOf, stackOf, runOf, Running}
+use Rattle.refine.specs.Rep.{between, activationOf, stackOf, runOf, Running, Clean}
 use Rattle.refine.specs.Bits.{bit-one}
 use Rattle.refine.specs.Runs.{Alike, activation-same, stack-same, run-same, running-same}
 use Rattle.refine.specs.Stores.{else-word, new-word}
@@ -82,11 +82,35 @@ module _ (row : List ℕ) (size : length row ≡ 2264) (k v : ℕ) (few : k < 20
           (sym e) (bits j ne e)) (saved j ne)
       go j ne (no d) = note-alike row made j (λ l. ap (λ (m : ℕ). bit m (j % 32)) (made-other (152 + j / 32) (λ e. d (omega arith), omega arith))) (saved j ne)
 
+  -- Its mark stands; the other marks and notes are as they were.
+  made-clean : Clean row → Clean made
+  made-clean clean j h e =
+      made-other (216 + j) (omega arith, other) ∙ clean j h (go (ℕ-discrete (j / 32) (k / 32)))
+    where
+      here : j ≡ k → bit (getD made (152 + j / 32) 0) (j % 32) ≡ true
+      here q =
+          ap (λ (i : ℕ). bit (getD made (152 + i / 32) 0) (i % 32)) q
+          ∙ made-mark (k % 32) ∙ ap (λ (b : Bool). bit marks (k % 32) || b) (eqb-same (k % 32)) ∙ or-true (bit marks (k % 32))
+
+      or-left : (a b : Bool) → (a || b) ≡ false → a ≡ false
+      or-left false b e = refl
+      or-left true b e = e
+
+      other : 216 + j ≢ 216 + k
+      other q = true≢false (sym (here (omega arith)) ∙ e)
+
+      go : Dec (j / 32 ≡ k / 32) → bit (getD row (152 + j / 32) 0) (j % 32) ≡ false
+      go (yes q) = or-left (bit (getD row (152 + j / 32) 0) (j % 32)) (eqb (k % 32) (j % 32))
+          (sym (subst (λ (i : ℕ). bit (getD made (152 + i) 0) (j % 32) ≡ (bit (getD row (152 + i) 0) (j % 32) || eqb (k % 32) (j % 32))) (sym q)
+          (made-mark (j % 32))) ∙ e)
+      go (no d) = ap (λ (m : ℕ). bit m (j % 32)) (sym (made-other (152 + j / 32) (λ q. d (omega arith), omega arith))) ∙ e
+
   -- The notes of the row that has noted a value, and what else it has kept.
   pub record Noted (row′ : List ℕ) : Type 0 where
     pub long : length row′ ≡ 2264
     pub alike : Alike 0 152 row row′
     pub notes : (j : ℕ) → noteAt row′ j ≡ put (noteAt row) k (firstValue (noteAt row k) v) j
+    pub clean : Clean row → Clean row′
 
   -- A value is noted once: the first note is kept.
   pub noted-row : Noted (notedRow row k v)
@@ -104,12 +128,14 @@ module _ (row : List ℕ) (size : length row ≡ 2264) (k v : ℕ) (few : k < 20
             alike = λ i g h. refl;
             notes = λ j. sym (ap (λ (u : Undo). u j) (put-id (noteAt row) k)) ∙ ap (λ (y : Option ℕ). put (noteAt row) k y j) n
                 ∙ first (some (getD row (216 + k) 0)) n j;
+            clean = λ c. c;
           }
       go false e =
           record {
             long = length-set one (216 + k) v ∙ length-set row markAt (bitOr marks (2 ^ (k % 32))) ∙ size;
             alike = λ i g h. made-other i (omega arith);
             notes = λ j. made-notes e j ∙ first none (note-is row k few false e) j;
+            clean = made-clean;
           }
 
 -- A value set by a statement.
@@ -144,5 +170,6 @@ assign-goes text tables p row values size runs k deep early h i v few =
           ∙ g .run;
       runs = g .runs;
       notes = λ j. g .notes j ∙ n .notes j;
+      clean = λ c. g .clean (n .clean c);
       locks = λ j a b. g .locks j a b ∙ word j b;
     }

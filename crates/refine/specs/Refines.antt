@@ -45,7 +45,7 @@ module _ (text ws values : List ℕ) (p : Program) (slots : ℕ → Slot (servic
   idle-follows (begin s) h t o = (refl, rep)
   idle-follows (send s q) h t o = sends-by text ws values p slots rep s h t o q
   idle-follows (step s) h t o = (refl, rep)
-  idle-follows (commit s) h t o = commits text ws values p slots rep s h
+  idle-follows (commit s) h t o = commits text ws values p slots rep s h t o
   idle-follows (abort s) h t o = aborts text ws values p slots rep s h t o
 
   running-follows : (c : Call) → slotIn c < 8 → (t : Transaction (service p)) → OpenRep text (tablesOf ws) p (rowOf ws (slotIn c)) t

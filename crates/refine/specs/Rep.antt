@@ -1,5 +1,5 @@
 -- When lent words represent a world of the model: what a slot's row says, when the tables fit a program, and both together.
-use Prim.Native.Nat.{ℕ, zero, suc, _+_, _-_, _≤_, _<_}
+use Prim.Native.Nat.{ℕ, zero, suc, _+_, _-_, _/_, _%_, _≤_, _<_}
 use mathlib.Core.Path.{_≡_}
 use mathlib.Core.Bool.{Bool, true, false, cond, _&&_}
 use mathlib.Core.Option.{Option, none, some}
@@ -168,8 +168,13 @@ abbrev pub NowRep : List ℕ → List ℕ → Program → List ℕ → Option Ru
 NowRep text tables p row none = getD row 0 0 ≡ 1
 NowRep text tables p row (some r) = (getD row 0 0 ≡ 2) × (r ≡ runOf text p row) × Running tables p row
 
+-- A note that the row has not made is 0.
+abbrev pub Clean : List ℕ → Type 0
+Clean row = (k : ℕ) → k < 2048 → bit (getD row (152 + k / 32) 0) (k % 32) ≡ false → getD row (216 + k) 0 ≡ 0
+
 pub record OpenRep (text tables : List ℕ) (p : Program) (row : List ℕ) (t : Transaction (service p)) : Type 0 where
   pub undo : (k : ℕ) → noteAt row k ≡ t .undo k
+  pub clean : Clean row
   pub locks : Holds p row (t .locks)
   pub now : NowRep text tables p row (t .running)
 

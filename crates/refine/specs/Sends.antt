@@ -29,6 +29,7 @@ use Rattle.refine.specs.Taking.{took-locks}
 use Rattle.refine.specs.Starts.{messageFor, starts}
 use Rattle.refine.specs.State.{moved}
 use Rattle.refine.specs.Transitions.{Follows, row-size}
+use Rattle.refine.specs.Freeing.{clean-alike}
 
 -- The least number that passes, by tests that are the same below a bound.
 least-same : (q r : ℕ → Bool) (n : ℕ) → ((k : ℕ) → k < n → q k ≡ r k) → least q n ≡ least r n
@@ -86,6 +87,8 @@ module _ (text ws values : List ℕ) (p : Program) (slots : ℕ → Slot (servic
                 undo = λ j.
                     note-same row₁ row₂ (λ i g e. start .tail i (omega arith) e) j
                     ∙ note-same row row₁ (λ i g e. took .kept i (λ y z. omega arith)) j ∙ open′ .undo j;
+                clean = clean-alike row₁ row₂ (λ i g e. start .tail i (omega arith) e)
+                    (clean-alike row row₁ (λ i g e. took .kept i (λ y z. omega arith)) (open′ .clean));
                 locks = holds-alike text tables p (rep .fits) row₁ row₂ locks (λ i g e. start .tail i g (omega arith)) (took .holds);
                 now = (start .phase, start .run, start .runs);
               }),

@@ -17,12 +17,14 @@ use Rattle.model.specs.Machine.{service}
 use Rattle.model.specs.Base.{put}
 use Rattle.words.specs.View.{bit}
 use Rattle.words.specs.Bits.{bit-zero}
-use Rattle.state.specs.Row.{Left, noteIf, noteAt, blank, carried}
+use Rattle.theory.specs.UndoLaws.{back-length}
+use Rattle.state.specs.Row.{Left, noteIf, noteAt, blank, freed, carried}
 use Rattle.state.specs.Turn.{decided}
 use Rattle.state.specs.Calls.{Answered, done, halt, After, tablesOf, rowOf, withRow, toldBy, laid, undoneAt}
 use Rattle.refine.specs.Rep.{runOf, Running, Holds, OpenRep, Rep, told}
 use Rattle.refine.specs.Runs.{note-same}
 use Rattle.refine.specs.Stores.{else-word, new-word}
+use Rattle.refine.specs.Freeing.{clean-alike, freed-long, freed-blank}
 use Rattle.refine.specs.Going.{Matches}
 use Rattle.refine.specs.Step.{step-matches}
 use Rattle.refine.specs.Locks.{blank-word, blank-holds, holds-alike}
@@ -33,11 +35,6 @@ abbrev pub Follows : List ℕ → (p : Program) → After → Answer × World (s
 Follows text p x y = (told (x .answered) ≡ y .0) × Rep text (x .words) (x .values) p (y .1)
 
 -- ---- notes
-
-back-length : (u : Undo) (values : List ℕ) → length (putBack u values) ≡ length values
-unfolding putBack
-back-length u [] = refl
-back-length u (v ∷ vs) = ap suc (back-length (λ k. u (suc k)) vs)
 
 act-length : (e : Effect) (values : List ℕ) → length (Model.act e values) ≡ length values
 act-length idle values = refl
@@ -53,9 +50,6 @@ zero-notes row zeros k =
     go : (b : Bool) → _≡_ {A = Option ℕ} (cond b none none) none
     go true = refl
     go false = refl
-
-blank-long : length blank ≡ 2264
-blank-long = length-replicate {A = ℕ} 2264 0
 
 module _ (text ws values : List ℕ) (p : Program) (slots : ℕ → Slot (service p)) (rep : Rep text ws values p (record { fields = values; slots = slots }))
     (s : ℕ) (h : s < 8) where
@@ -84,6 +78,7 @@ module _ (text ws values : List ℕ) (p : Program) (slots : ℕ → Slot (servic
     moved text ws values p slots rep s h (set row 0 1) values (length-set row 0 1 ∙ row-size) refl (opened (newTransaction (service p)))
         (record {
           undo = λ k. note-same row (set row 0 1) (λ i g l. phased 1 i (omega arith)) k ∙ zero-notes row zeros k;
+          clean = λ k l m. phased 1 (216 + k) (omega arith) ∙ zeros (216 + k);
           locks = holds-alike text (tablesOf ws) p (rep .fits) row (set row 0 1) [] (λ i g l. phased 1 i (omega arith))
               (subst (λ (r : List ℕ). Holds p r []) (sym e) (blank-holds p));
           now = new-word row 0 1 (omega (arith, row-size));
@@ -93,22 +88,27 @@ module _ (text ws values : List ℕ) (p : Program) (slots : ℕ → Slot (servic
       zeros : (i : ℕ) → getD row i 0 ≡ 0
       zeros i = ap (λ (r : List ℕ). getD r i 0) e ∙ blank-word i
 
-  -- "Commit frees the slot and leaves the fields."
-  pub commits : Follows text p (record { answered = done; words = withRow ws s blank; values = values }) (Told.done, withSlot (service p) w s closed)
-  commits = (refl, moved text ws values p slots rep s h blank values blank-long refl closed refl)
-
   module _ (t : Transaction (service p)) (open′ : OpenRep text (tablesOf ws) p row t) where
+    -- The slot closed.
+    frees : (values′ : List ℕ) → length values′ ≡ length values
+        → Rep text (withRow ws s (freed row)) values′ p (record { fields = values′; slots = put slots s closed })
+    frees values′ count =
+        moved text ws values p slots rep s h (freed row) values′ (freed-long row row-size) count closed (freed-blank row row-size (open′ .clean))
+
+    -- "Commit frees the slot and leaves the fields."
+    pub commits : Follows text p (record { answered = done; words = withRow ws s (freed row); values = values }) (Told.done, withSlot (service p) w s closed)
+    commits = (refl, frees values refl)
+
     notes-are : noteAt row ≡ t .undo
     notes-are = fun-ext (open′ .undo)
 
     -- "Abort puts back .. and frees the slot."
     undoes : (said : Answered) (a : Answer) → told said ≡ a
-        → Follows text p (record { answered = said; words = withRow ws s blank; values = putBack (noteAt row) values }) (a, undone (service p) w s t)
+        → Follows text p (record { answered = said; words = withRow ws s (freed row); values = putBack (noteAt row) values }) (a, undone (service p) w s t)
     undoes said a e = (
       e,
-      subst (λ (u : Undo). Rep text (withRow ws s blank) (putBack (noteAt row) values) p
-          (record { fields = putBack u values; slots = put slots s closed })) notes-are
-          (moved text ws values p slots rep s h blank (putBack (noteAt row) values) blank-long (back-length (noteAt row) values) closed refl),
+      subst (λ (u : Undo). Rep text (withRow ws s (freed row)) (putBack (noteAt row) values) p
+          (record { fields = putBack u values; slots = put slots s closed })) notes-are (frees (putBack (noteAt row) values) (back-length (noteAt row) values)),
     )
 
     pub aborts : Follows text p (undoneAt ws values s) (Told.done, undone (service p) w s t)
@@ -131,6 +131,7 @@ module _ (text ws values : List ℕ) (p : Program) (slots : ℕ → Slot (servic
       ap (λ z. told (toldBy z)) (m .said),
       steps-to (x .row) (x .values) e (some r) (m .size) (m .fields)
           (record {
+            clean = m .clean (open′ .clean);
             undo = λ k. m .notes k ∙ ap (λ (u : Undo). noted u e values k) notes-are;
             locks = holds-alike text (tablesOf ws) p (rep .fits) row (x .row) (t .locks) (m .locks) (open′ .locks);
             now = (m .phase ∙ two, m .run, m .runs);
@@ -143,6 +144,7 @@ module _ (text ws values : List ℕ) (p : Program) (slots : ℕ → Slot (servic
           steps-to (x .row) (x .values) e none (ap length (m .left) ∙ length-set row 0 1 ∙ row-size) (m .fields ∙ ap (λ (d : Effect). Model.act d values) (sym e′))
               (record {
                 undo = λ k. note-same row (x .row) (λ i g l. keep i (omega arith)) k ∙ open′ .undo k ∙ ap (λ (d : Effect). noted (t .undo) d values k) (sym e′);
+                clean = clean-alike row (x .row) (λ i g l. keep i (omega arith)) (open′ .clean);
                 locks = holds-alike text (tablesOf ws) p (rep .fits) row (x .row) (t .locks) (λ i g l. keep i (omega arith)) (open′ .locks);
                 now = ap (λ (r : List ℕ). getD r 0 0) (m .left) ∙ new-word row 0 1 (omega (arith, row-size));
               }),

@@ -22,6 +22,7 @@ use Rattle.refine.specs.Objects.{objects-here, objects-past}
 use Rattle.refine.specs.Runs.{message-same, note-same, run-is}
 use Rattle.refine.specs.Stores.{else-word, new-word, act-length, act-other, act-opened, act-end}
 use Rattle.refine.specs.Going.{Goes}
+use Rattle.refine.specs.Freeing.{clean-alike}
 
 -- The row with its head words on object o, with d activations.
 abbrev pub headRow : List ℕ → ℕ → ℕ → ℕ → List ℕ
@@ -191,5 +192,6 @@ module _ (text tables : List ℕ) (p : Program) (fits : Fits text tables p) (row
           run = sym visit-run;
           runs = visit-running;
           notes = note-same row on (λ i g h. visit-other i (omega arith));
+          clean = clean-alike row on (λ i g h. visit-other i (omega arith));
           locks = λ i g h. visit-other i (omega arith);
         }

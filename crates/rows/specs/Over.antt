@@ -48,6 +48,24 @@ over-at (suc i) [] (o ∷ os) e = absurd (omega arith)
 over-at (suc i) (t ∷ ts) [] e = absurd (omega arith)
 over-at (suc i) (t ∷ ts) (o ∷ os) e = over-at i ts os (suc-injective e)
 
+-- What is made is there.
+pub over-made : (i j : ℕ) (made old : List ℕ) → length made ≡ length old → j < i → getD (over i made old) j 0 ≡ getD made j 0
+over-made zero j made old e h = absurd (not-suc-le-zero h)
+over-made (suc i) j [] [] e h = refl
+over-made (suc i) j [] (o ∷ os) e h = absurd (omega arith)
+over-made (suc i) j (t ∷ ts) [] e h = absurd (omega arith)
+over-made (suc i) zero (t ∷ ts) (o ∷ os) e h = refl
+over-made (suc i) (suc j) (t ∷ ts) (o ∷ os) e h = over-made i j ts os (suc-injective e) (le-of-suc-le-suc h)
+
+-- Elements that stay as they are can be passed over.
+pub over-skip : (i n : ℕ) (made old : List ℕ) → length made ≡ length old → i + n ≤ length old
+    → ((j : ℕ) → i ≤ j → j < i + n → getD made j 0 ≡ getD old j 0) → over i made old ≡ over (i + n) made old
+over-skip i zero made old e h q = let a : i ≡ i + 0 = omega arith in ap (λ (k : ℕ). over k made old) a
+over-skip i (suc n) made old e h q =
+    let a : suc (i + n) ≡ i + suc n = omega arith in
+    over-skip i n made old e (omega arith) (λ j g l. q j g (omega arith))
+    ∙ keep-next (i + n) made old e (omega arith) (q (i + n) (omega arith) (omega arith)) ∙ ap (λ (k : ℕ). over k made old) a
+
 -- At the end all is made.
 pub over-all : (made old : List ℕ) → length made ≡ length old → over (length old) made old ≡ made
 over-all [] [] e = refl

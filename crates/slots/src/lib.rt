@@ -5,7 +5,7 @@ ghost use mathlib.Core.Path.{_≡_};
 ghost use lib.ListN.{getD, set};
 ghost use Rattle.model.specs.Undo.{putBack};
 ghost use Rattle.model.specs.Service.{begin, commit, abort};
-ghost use Rattle.state.specs.Row.{noteAt, blank};
+ghost use Rattle.state.specs.Row.{noteAt, freed};
 ghost use Rattle.state.specs.Calls.{rowOf, withRow, misfitOf, called};
 ghost use Rattle.slots.specs.Told.{Leaves};
 ghost use Rattle.slots.specs.Lent.{Within};
@@ -59,10 +59,10 @@ pub fn phase_of(state: &[u32], slot: u32) -> u32
     words::get(state, 8072 + slot as usize * 2264)
 }
 
-// The slot's row all zero.
+// What the slot's transaction wrote in its row is 0.
 fn free(state: &mut [u32], slot: u32)
     requires { ⌜ Within (now state) slot ⌝ }
-    ensures { λ _. ⌜ now (state .exit) ≡ withRow (now (state .entry)) slot blank ⌝ }
+    ensures { λ _. ⌜ now (state .exit) ≡ withRow (now (state .entry)) slot (freed (rowOf (now (state .entry)) slot)) ⌝ }
 {
     let start = 8072 + slot as usize * 2264;
     let end = start + 2264;

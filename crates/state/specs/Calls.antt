@@ -12,7 +12,7 @@ use Rattle.model.specs.Undo.{putBack}
 use Rattle.model.specs.Service.{Call, begin, send, step, commit, abort}
 use Rattle.model.specs.Machine.{object, class, domain, Request, to}
 use Rattle.words.specs.View.{objectWord, classWord, classCount, objectCount, memberCount}
-use Rattle.state.specs.Row.{Said, unfit, going, halted, answered, Left, noteAt, blank, carried}
+use Rattle.state.specs.Row.{Said, unfit, going, halted, answered, Left, noteAt, freed, carried}
 use Rattle.state.specs.Turn.{decided}
 use Rattle.state.specs.Request.{Wanted, rowMeets, locked, begunRow}
 
@@ -110,7 +110,7 @@ laid ws s x = record { answered = toldBy (x .said); words = withRow ws s (x .row
 -- ---- the calls
 
 abbrev pub undoneAt : List ℕ → List ℕ → ℕ → After
-undoneAt ws values s = record { answered = done; words = withRow ws s blank; values = putBack (noteAt (rowOf ws s)) values }
+undoneAt ws values s = record { answered = done; words = withRow ws s (freed (rowOf ws s)); values = putBack (noteAt (rowOf ws s)) values }
 
 -- On a slot below 8, by its phase: closed, open, or with a message running (any other number counts as running).
 abbrev pub onClosed : List ℕ → List ℕ → Call Request → After
@@ -124,7 +124,7 @@ abbrev pub onIdle : List ℕ → List ℕ → List ℕ → Call Request → Afte
 onIdle text ws values (begin s) = refused ws values 33
 onIdle text ws values (send s q) = sentBy text ws values s q
 onIdle text ws values (step s) = refused ws values 35
-onIdle text ws values (commit s) = record { answered = done; words = withRow ws s blank; values = values }
+onIdle text ws values (commit s) = record { answered = done; words = withRow ws s (freed (rowOf ws s)); values = values }
 onIdle text ws values (abort s) = undoneAt ws values s
 
 abbrev pub onRunning : List ℕ → List ℕ → List ℕ → Call Request → After
@@ -147,7 +147,7 @@ byPhase text ws values c phase =
 
 -- One call on what is lent, whatever that is.
 unfoldable pub called : List ℕ → List ℕ → List ℕ → Call Request → After
-unfolding misfitOf rowOf sentTo carried decided putBack noteAt
+unfolding misfitOf rowOf sentTo carried decided putBack noteAt freed
 called text ws values c =
     let misfit = misfitOf text ws values in
     cond (not (eqb misfit 0)) (refused ws values misfit)

@@ -9,8 +9,8 @@
 use Prim.Native.Nat.{ℕ, _+_, _*_, _-_, _/_, _%_, _^_}
 use mathlib.Core.Bool.{Bool, true, false, cond}
 use mathlib.Core.Option.{Option, none, some}
-use mathlib.Core.List.{List}
-use lib.ListN.{getD, set, replicate}
+use mathlib.Core.List.{List, _++_}
+use lib.ListN.{getD, set, drop, replicate}
 use lib.Bits.{bitOr}
 use lib.Dec.{ltb}
 use Rattle.model.specs.Undo.{Undo, putBack}
@@ -116,19 +116,31 @@ unfolding newAct
 objectRow o first end sum row =
     newAct (set (set (set (set row 4 o) 1 1) 2 0) 3 sum) 0 first end (getD row 8 0)
 
+-- The row of a closed slot.
 abbrev pub blank : List ℕ
 blank = replicate 2264 0
 
+-- The notes that a row has made are 0.
+unfoldable pub unnoted : List ℕ → List ℕ
+unfolding bit putBack
+unnoted row = putBack (λ i. cond (ltb i 216) none (noteIf (bit (getD row (152 + (i - 216) / 32) 0) ((i - 216) % 32)) 0)) row
+
+-- "frees the slot": the notes that were made and the first 216 words are 0. No other note is anything but 0 in a row that
+-- represents an open slot, so that it is blank then (crates/refine/specs/Freeing.antt); and 8 KiB need not be written.
+unfoldable pub freed : List ℕ → List ℕ
+unfolding unnoted
+freed row = replicate 216 0 ++ drop 216 (unnoted row)
+
 -- The transaction undone: "puts back .. and frees the slot".
 abbrev pub undoneTo : Said → List ℕ → List ℕ → Left
-undoneTo said row values = record { said = said; row = blank; values = putBack (noteAt row) values }
+undoneTo said row values = record { said = said; row = freed row; values = putBack (noteAt row) values }
 
 abbrev pub goingTo : List ℕ → List ℕ → Left
 goingTo row values = record { said = going; row = row; values = values }
 
 -- A turn carried out; a row without activations fits none that needs one.
 unfoldable pub carried : List ℕ → List ℕ → Turn → Left
-unfolding putBack noteAt notedRow skipRow callRow replyRow backRow objectRow
+unfolding putBack noteAt freed notedRow skipRow callRow replyRow backRow objectRow
 carried row values misfit = record { said = unfit; row = row; values = values }
 carried row values stop = undoneTo halted row values
 carried row values skip = goingTo (skipRow row) values

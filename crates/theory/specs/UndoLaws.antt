@@ -19,12 +19,12 @@ use Rattle.theory.specs.Locality.{free-apart}
 -- ---- what is put back, place by place
 
 -- Each place keeps its value or gets the one noted.
-back-length : (u : Undo) (fields : List ℕ) → length (putBack u fields) ≡ length fields
+pub back-length : (u : Undo) (fields : List ℕ) → length (putBack u fields) ≡ length fields
 unfolding putBack
 back-length u [] = refl
 back-length u (v ∷ vs) = ap suc (back-length (λ k. u (suc k)) vs)
 
-back-at : (u : Undo) (fields : List ℕ) (i : ℕ) → i < length fields → getD (putBack u fields) i 0 ≡ restored (u i) (getD fields i 0)
+pub back-at : (u : Undo) (fields : List ℕ) (i : ℕ) → i < length fields → getD (putBack u fields) i 0 ≡ restored (u i) (getD fields i 0)
 unfolding putBack
 back-at u [] i h = absurd (omega arith)
 back-at u (v ∷ vs) zero h = refl
