@@ -1,14 +1,17 @@
 /* Berkeley DB's lock subsystem with a conflict matrix: the two locks of a send to an object, and their release, as often as
  * takes a while. Prints the time of one in nanoseconds. The modes are those of class lane of samples/lanes.txt: a method on
  * an object, and on a class a method with the flag that says whether all its objects are meant.
- *   berkeley plain    one locker, an environment for one thread
- *   berkeley lockers  a locker of its own for each transaction, as begin and commit have it
- *   berkeley threads  one locker, an environment for several threads */
+ *   berkeley plain      one locker, an environment for one thread
+ *   berkeley lockers    a locker of its own for each transaction, as begin and commit have it
+ *   berkeley threads    one locker, an environment for several threads
+ *   berkeley service    a locker for each transaction, for several threads
+ *   berkeley processes  a locker for each transaction, for several processes: the environment is in files */
 #include <db.h>
 #include <stdio.h>
 #include <stdlib.h>
 #include <string.h>
 #include <time.h>
+#include <unistd.h>
 
 /* Our modes stand behind the ones that Berkeley DB gives a meaning of its own. */
 enum { METHODS = 3, FIRST = DB_LOCK_WWRITE + 1, MODES = FIRST + 3 * METHODS, TIMES = 30000 };
@@ -41,8 +44,16 @@ static double now(void) {
 }
 
 int main(int count, char **words) {
-    int lockers = count > 1 && strcmp(words[1], "lockers") == 0;
-    int threads = count > 1 && strcmp(words[1], "threads") == 0;
+    const char *word = count > 1 ? words[1] : "plain";
+    int processes = strcmp(word, "processes") == 0;
+    int service = strcmp(word, "service") == 0 || processes;
+    int lockers = strcmp(word, "lockers") == 0 || service;
+    int threads = strcmp(word, "threads") == 0 || service;
+    char home[] = "berkeley-XXXXXX";
+    if (processes && mkdtemp(home) == NULL) {
+        perror("mkdtemp");
+        return 1;
+    }
     uint8_t conflicts[MODES * MODES];
     for (int held = 0; held < MODES; held++)
         for (int wanted = 0; wanted < MODES; wanted++)
@@ -50,7 +61,8 @@ int main(int count, char **words) {
     DB_ENV *env;
     must(db_env_create(&env, 0));
     must(env->set_lk_conflicts(env, conflicts, MODES));
-    must(env->open(env, NULL, DB_CREATE | DB_INIT_LOCK | DB_PRIVATE | (threads ? DB_THREAD : 0), 0));
+    u_int32_t flags = DB_CREATE | DB_INIT_LOCK | (processes ? 0 : DB_PRIVATE) | (threads ? DB_THREAD : 0);
+    must(env->open(env, processes ? home : NULL, flags, 0));
     u_int32_t locker, other;
     must(env->lock_id(env, &locker));
     must(env->lock_id(env, &other));
@@ -89,5 +101,11 @@ int main(int count, char **words) {
         least = time < least ? time : least;
     }
     printf("%.1f\n", least);
+    must(env->close(env, 0));
+    if (processes) {
+        must(db_env_create(&env, 0));
+        must(env->remove(env, home, 0));
+        return rmdir(home);
+    }
     return 0;
 }

@@ -1,6 +1,6 @@
 -- The model's tests of whole lists (`same`, `every`, `any`) as a loop at place i, or a chain of tests, meets them.
 use Prim.Native.Nat.{ℕ, _+_, _≤_, _<_}
-use mathlib.Core.Path.{_≡_, refl}
+use mathlib.Core.Path.{_≡_, refl, sym, ap, _∙_}
 use mathlib.Core.Bool.{Bool, true, false, _||_}
 use mathlib.Core.List.{List, [], _∷_}
 use native.Mathlib.Numerals.{add-one}
@@ -10,14 +10,8 @@ use lib.Seq.{drop-cons}
 use lib.Dec.{eqb}
 use borrow.Author.Tests.{eq-eqb, ne-eqb}
 use Rattle.model.specs.Base.{same, any, every}
-use Rattle.lex.specs.Tests.{and-false}
-
-pub same-lengths : (a b : List ℕ) → (length a ≡ length b → ⊥) → same a b ≡ false
-unfolding same
-same-lengths [] [] h = absurd (h refl)
-same-lengths [] (y ∷ ys) h = refl
-same-lengths (x ∷ xs) [] h = refl
-same-lengths (x ∷ xs) (y ∷ ys) h = and-false (eqb x y) (same-lengths xs ys (omega arith))
+use Rattle.model.specs.Word.{beginsWithLetter, isNameByte, isReserved, reserved}
+use Rattle.lex.specs.Among.{ofLength, none-of-length, among, by-length}
 
 module _ (a b : List ℕ) (i : ℕ) where
   pub same-end : length a ≤ i → length b ≤ i → same (drop i a) (drop i b) ≡ true
@@ -45,24 +39,35 @@ module _ (p : ℕ → Bool) (s : List ℕ) (i : ℕ) where
   unfolding every
   every-more h e = rw (add-one, drop-cons s i 0 h, e)
 
--- A chain of tests, written one after the other.
-module _ {A : Type 0} (p : A → Bool) where
-  abbrev chain : Bool → List A → Bool
+-- A letter may stand in a name: where the first byte is one, the others decide.
+pub every-behind : (w : List ℕ) → beginsWithLetter w ≡ true → every isNameByte (drop 1 w) ≡ every isNameByte w
+unfolding every
+every-behind [] e = refl
+every-behind (b ∷ w) e = rw e
+
+-- The reserved words of n bytes.
+abbrev pub reservedOf : ℕ → List (List ℕ)
+reservedOf n = ofLength (λ v. v) n reserved
+
+module _ (w : List ℕ) where
+  abbrev oneOf : List (List ℕ) → Bool
+  oneOf vs = among (λ v. v) (λ v t u. t || u) false vs w
+
+  -- A chain of comparisons, written one after the other.
+  abbrev pub chain : Bool → List (List ℕ) → Bool
   chain t [] = t
-  chain t (x ∷ xs) = chain (t || p x) xs
+  chain t (v ∷ vs) = chain (t || same w v) vs
 
-  chain-from : (t : Bool) (xs : List A) → chain t xs ≡ (t || any p xs)
-  unfolding any
-  chain-from true [] = refl
-  chain-from false [] = refl
-  chain-from true (x ∷ xs) = chain-from true xs
-  chain-from false (x ∷ xs) = chain-from (p x) xs
+  chained : (t : Bool) (vs : List (List ℕ)) → chain t vs ≡ (t || oneOf vs)
+  chained true [] = refl
+  chained false [] = refl
+  chained true (v ∷ vs) = chained true vs
+  chained false (v ∷ vs) = chained (same w v) vs
 
-  abbrev pub chained : List A → Bool
-  chained [] = false
-  chained (x ∷ xs) = chain (p x) xs
+  -- Only the reserved words of the word's own length are to be compared with it.
+  pub reserved-of : (n : ℕ) → length w ≡ n → chain false (reservedOf n) ≡ isReserved w
+  unfolding isReserved any
+  reserved-of n h = chained false (reservedOf n) ∙ sym (rw h at (by-length (λ v. v) (λ v t u. t || u) false (λ v u. refl) reserved w))
 
-  pub chained-any : (xs : List A) → chained xs ≡ any p xs
-  unfolding any
-  chained-any [] = refl
-  chained-any (x ∷ xs) = chain-from (p x) xs
+  pub reserved-none : any (λ v. eqb (length w) (length v)) reserved ≡ false → false ≡ isReserved w
+  reserved-none e = ap (chain false) (sym (none-of-length (λ v. v) (length w) reserved e)) ∙ reserved-of (length w) refl

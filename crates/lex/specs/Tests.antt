@@ -1,5 +1,5 @@
 -- Laws of tests joined by && and ||, for answers that are made of several tests.
-use mathlib.Core.Path.{_≡_, refl}
+use mathlib.Core.Path.{_≡_, refl, sym}
 use mathlib.Core.Bool.{Bool, true, false, _&&_, _||_, false≢true}
 
 -- Two tests that are the definition's, joined.
@@ -18,3 +18,7 @@ and-false false h = refl
 pub and-true : (t : Bool) {u : Bool} → (t && u) ≡ true → (t ≡ true) × (u ≡ true)
 and-true true e = (refl, e)
 and-true false e = absurd (false≢true e)
+
+pub or-false : (t : Bool) {u : Bool} → (t || u) ≡ false → (t ≡ false) × (u ≡ false)
+or-false true e = absurd (false≢true (sym e))
+or-false false e = (refl, e)

@@ -120,14 +120,17 @@ fn is_digit(byte: u8) -> bool
 fn is_name_byte(byte: u8) -> bool
     ensures { λ r. ⌜ r ≡ isNameByte byte ⌝ }
 {
-    is_letter(byte) | is_digit(byte) | (byte == 95)
+    if is_letter(byte) {
+        return true;
+    }
+    is_digit(byte) | (byte == 95)
 }
 
-// Each byte of the word may stand in a name.
-fn all_name_bytes(word: &[u8]) -> bool
-    ensures { λ r. ⌜ r ≡ every isNameByte (now (word .entry)) ⌝ }
+// Each byte of the word from `from` on may stand in a name.
+fn all_name_bytes(word: &[u8], from: usize) -> bool
+    ensures { λ r. ⌜ r ≡ every isNameByte (drop from (now (word .entry))) ⌝ }
 {
-    let mut i = 0;
+    let mut i = from;
     while i < word.len() {
         if !is_name_byte(word[i]) {
             return false;
@@ -137,25 +140,29 @@ fn all_name_bytes(word: &[u8]) -> bool
     true
 }
 
-// The word is one of the reserved ones.
+// The word is one of the reserved ones; it is compared with those of its own length.
 fn is_reserved(word: &[u8]) -> bool
     ensures { λ r. ⌜ r ≡ isReserved (now (word .entry)) ⌝ }
 {
-    same(word, b"class")
-        | same(word, b"field")
-        | same(word, b"method")
-        | same(word, b"end")
-        | same(word, b"object")
-        | same(word, b"set")
-        | same(word, b"send")
-        | same(word, b"to")
-        | same(word, b"self")
-        | same(word, b"reply")
-        | same(word, b"when")
-        | same(word, b"arg")
-        | same(word, b"got")
-        | same(word, b"add")
-        | same(word, b"level")
+    match word.len() {
+        2 => same(word, b"to"),
+        3 => {
+            same(word, b"end")
+                | same(word, b"set")
+                | same(word, b"arg")
+                | same(word, b"got")
+                | same(word, b"add")
+        }
+        4 => same(word, b"send") | same(word, b"self") | same(word, b"when"),
+        5 => {
+            same(word, b"class")
+                | same(word, b"field")
+                | same(word, b"reply")
+                | same(word, b"level")
+        }
+        6 => same(word, b"method") | same(word, b"object"),
+        _ => false,
+    }
 }
 
 // The word's first byte is a letter; an empty word has none.
@@ -174,7 +181,7 @@ pub fn is_name(word: &[u8]) -> bool
     ensures { λ r. ⌜ r ≡ isName (now (word .entry)) ⌝ }
 {
     if begins_with_letter(word) & (word.len() <= 16) {
-        all_name_bytes(word) & !is_reserved(word)
+        all_name_bytes(word, 1) & !is_reserved(word)
     } else {
         false
     }

@@ -1,1 +1,3 @@
+mod TokenLaws
+mod KeywordLaws
 mod FormLaws

@@ -1,4 +1,4 @@
--- A choice among constants as a chain of tests meets it: one law for keywords and tokens.
+-- A choice among constants as a chain of tests meets it.
 use mathlib.Core.Path.{_≡_, refl, ap, _∙_}
 use mathlib.Core.Bool.{Bool, true, false, cond}
 

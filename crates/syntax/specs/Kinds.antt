@@ -115,7 +115,7 @@ kindBy replyWord = 3
 kindBy whenWord = 3
 kindBy otherWord = 6
 
-and-yes : (t : Bool) → (t && true) ≡ t
+pub and-yes : (t : Bool) → (t && true) ≡ t
 and-yes true = refl
 and-yes false = refl
 

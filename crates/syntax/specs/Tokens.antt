@@ -46,17 +46,15 @@ abbrev literalOf : Option ℕ → model.Token
 literalOf (some n) = leaf (number n)
 literalOf none = neither
 
--- The token of a word that is no operator.
-unfoldable pub leafOf : List ℕ → model.Token
-unfolding same isName isNumber decimal
-leafOf w =
-    cond (same w (bytes "arg")) (leaf argument)
-    (cond (same w (bytes "got")) (leaf got)
-    (cond (isName w) (leaf (field w))
-    (cond (isNumber w) (leaf (number (decimal 0 w)))
-    neither)))
+-- The token of a word that is `arg`, `got` or a name; else the other.
+unfoldable pub namedOr : List ℕ → model.Token → model.Token
+namedOr w other = cond (same w (bytes "arg")) (leaf argument) (cond (same w (bytes "got")) (leaf got) (cond (isName w) (leaf (field w)) other))
 
-pub literal-said : (w : List ℕ) (n : Number) → said n ≡ numberOf w → saidToken w (literal n) ≡ cond (isNumber w) (leaf (number (decimal 0 w))) neither
+-- The token of a word that is a number; else neither.
+abbrev pub numeral : List ℕ → model.Token
+numeral w = cond (isNumber w) (leaf (number (decimal 0 w))) neither
+
+pub literal-said : (w : List ℕ) (n : Number) → said n ≡ numberOf w → saidToken w (literal n) ≡ numeral w
 unfolding numberOf
 literal-said w n e = by n ∙ ap literalOf e ∙ through (isNumber w)
   where

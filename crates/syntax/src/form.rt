@@ -116,7 +116,7 @@ fn is_set(line: &[u8], at: usize) -> bool
 }
 
 // The word is `M` or `C.M`.
-fn is_target(word: &[u8]) -> bool
+pub fn is_target(word: &[u8]) -> bool
     ensures { λ r. ⌜ r ≡ isTarget (pieces 46 (now (word .entry))) ⌝ }
 {
     let first = lex::piece_end(word, 0, POINT);
@@ -139,7 +139,7 @@ fn is_send(line: &[u8], at: usize) -> bool
 }
 
 // The words behind `at` make an action of the keyword.
-fn is_action(keyword: Keyword, line: &[u8], at: usize) -> bool
+pub fn is_action(keyword: Keyword, line: &[u8], at: usize) -> bool
     ensures { λ r. ⌜ r ≡ isAction (actionOf (saidKeyword keyword) (wordsAfter (drop at (now (line .entry))))) ⌝ }
 {
     match keyword {

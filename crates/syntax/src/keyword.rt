@@ -25,17 +25,28 @@ fn choose(test: bool, keyword: Keyword, other: Keyword) -> Keyword
     if test { keyword } else { other }
 }
 
-// The keyword that the word is; Other where it is none.
+// The keyword that the word is, by its length; Other where it is none.
 pub fn keyword_of(word: &[u8]) -> Keyword
     ensures { λ r. ⌜ saidKeyword r ≡ keywordOf (now (word .entry)) ⌝ }
 {
-    let keyword = choose(lex::same(word, b"when"), Keyword::When, Keyword::Other);
-    let keyword = choose(lex::same(word, b"reply"), Keyword::Reply, keyword);
-    let keyword = choose(lex::same(word, b"send"), Keyword::Send, keyword);
-    let keyword = choose(lex::same(word, b"set"), Keyword::Set, keyword);
-    let keyword = choose(lex::same(word, b"object"), Keyword::Object, keyword);
-    let keyword = choose(lex::same(word, b"end"), Keyword::End, keyword);
-    let keyword = choose(lex::same(word, b"method"), Keyword::Method, keyword);
-    let keyword = choose(lex::same(word, b"field"), Keyword::Field, keyword);
-    choose(lex::same(word, b"class"), Keyword::Class, keyword)
+    match word.len() {
+        3 => {
+            let keyword = choose(lex::same(word, b"set"), Keyword::Set, Keyword::Other);
+            choose(lex::same(word, b"end"), Keyword::End, keyword)
+        }
+        4 => {
+            let keyword = choose(lex::same(word, b"when"), Keyword::When, Keyword::Other);
+            choose(lex::same(word, b"send"), Keyword::Send, keyword)
+        }
+        5 => {
+            let keyword = choose(lex::same(word, b"reply"), Keyword::Reply, Keyword::Other);
+            let keyword = choose(lex::same(word, b"field"), Keyword::Field, keyword);
+            choose(lex::same(word, b"class"), Keyword::Class, keyword)
+        }
+        6 => {
+            let keyword = choose(lex::same(word, b"object"), Keyword::Object, Keyword::Other);
+            choose(lex::same(word, b"method"), Keyword::Method, keyword)
+        }
+        _ => Keyword::Other,
+    }
 }

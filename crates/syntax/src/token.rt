@@ -1,8 +1,8 @@
 // What a word of an expression is.
 ghost use mathlib.Core.Path.{_≡_};
-ghost use mathlib.Core.Bool.{cond};
-ghost use Rattle.model.specs.Expression.{tokenOf};
-ghost use Rattle.syntax.specs.Tokens.{saidToken, literal, leafOf};
+ghost use mathlib.Core.List.{[], _∷_};
+ghost use Rattle.model.specs.Expression.{neither, tokenOf};
+ghost use Rattle.syntax.specs.Tokens.{saidToken, literal, namedOr};
 
 // `+ - * < =`
 pub enum Operator {
@@ -28,13 +28,6 @@ pub enum Token {
     Neither,
 }
 
-// The token where the test passes, else the other.
-fn choose(test: bool, token: Token, other: Token) -> Token
-    ensures { λ r. ⌜ r ≡ cond test token other ⌝ }
-{
-    if test { token } else { other }
-}
-
 // The number as a token.
 fn literal(number: lex::Number) -> Token
     ensures { λ r. ⌜ r ≡ literal number ⌝ }
@@ -45,28 +38,51 @@ fn literal(number: lex::Number) -> Token
     }
 }
 
-// The token of a word that is no operator; Neither where it is no leaf.
-fn leaf_of(word: &[u8]) -> Token
-    ensures { λ r. ⌜ saidToken (now (word .entry)) r ≡ leafOf (now (word .entry)) ⌝ }
+// What a word of this byte alone is in an expression; Neither where it stands in none.
+fn token_of_byte(byte: u8) -> Token
+    ensures { λ r. ⌜ saidToken (byte ∷ []) r ≡ tokenOf (byte ∷ []) ⌝ }
 {
-    let token = literal(lex::number_of(word));
-    let token = choose(lex::is_name(word), Token::Single(Leaf::Field), token);
-    let token = choose(lex::same(word, b"got"), Token::Single(Leaf::Got), token);
-    choose(
-        lex::same(word, b"arg"),
-        Token::Single(Leaf::Argument),
-        token,
-    )
+    match byte {
+        b'a'..=b'z' => Token::Single(Leaf::Field),
+        b'0'..=b'9' => Token::Single(Leaf::Literal((byte - b'0') as u32)),
+        b'+' => Token::Sign(Operator::Plus),
+        b'-' => Token::Sign(Operator::Minus),
+        b'*' => Token::Sign(Operator::Times),
+        b'<' => Token::Sign(Operator::Less),
+        b'=' => Token::Sign(Operator::Equal),
+        _ => Token::Neither,
+    }
 }
 
-// What the word is in an expression; Neither where it stands in none.
+// What a word that begins with a letter is: `arg`, `got` or a field; Neither where it is no name.
+fn token_of_name(word: &[u8]) -> Token
+    ensures { λ r. ⌜ saidToken (now (word .entry)) r ≡ namedOr (now (word .entry)) neither ⌝ }
+{
+    if lex::same(word, b"arg") {
+        return Token::Single(Leaf::Argument);
+    }
+    if lex::same(word, b"got") {
+        return Token::Single(Leaf::Got);
+    }
+    if lex::is_name(word) {
+        return Token::Single(Leaf::Field);
+    }
+    Token::Neither
+}
+
+// What the word is in an expression, by its first byte; Neither where it stands in none.
 pub fn token_of(word: &[u8]) -> Token
     ensures { λ r. ⌜ saidToken (now (word .entry)) r ≡ tokenOf (now (word .entry)) ⌝ }
 {
-    let token = leaf_of(word);
-    let token = choose(lex::same(word, b"="), Token::Sign(Operator::Equal), token);
-    let token = choose(lex::same(word, b"<"), Token::Sign(Operator::Less), token);
-    let token = choose(lex::same(word, b"*"), Token::Sign(Operator::Times), token);
-    let token = choose(lex::same(word, b"-"), Token::Sign(Operator::Minus), token);
-    choose(lex::same(word, b"+"), Token::Sign(Operator::Plus), token)
+    if word.len() == 0 {
+        return Token::Neither;
+    }
+    let first = word[0];
+    if word.len() == 1 {
+        return token_of_byte(first);
+    }
+    if (b'a' <= first) & (first <= b'z') {
+        return token_of_name(word);
+    }
+    literal(lex::number_of(word))
 }

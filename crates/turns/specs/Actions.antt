@@ -1,23 +1,26 @@
--- What an action comes to in a frame, by its keyword, the word behind that and its expression's value: of the words of a line
--- that is a statement no others are looked at.
+-- What an action comes to in a frame, by its keyword, the words behind that and its expression's value.
 use Prim.Native.Nat.{ℕ, _+_, _≤_, _<_}
 use mathlib.Core.Path.{_≡_}
-use mathlib.Core.Bool.{Bool, true, false, cond}
+use mathlib.Core.Bool.{Bool, true, false, cond, _&&_}
+use mathlib.Core.Option.{Option, none, some}
 use mathlib.Core.List.{List}
 use lib.ListN.{length, take, drop}
-use lib.Dec.{eqb, ltb}
+use lib.Dec.{ltb}
 use borrow.Author.Tests.{lt-ltb, le-ltb, le-leb, lt-leb}
+use Rattle.model.specs.Base.{bytes, same}
 use Rattle.model.specs.Text.{pieces}
-use Rattle.model.specs.Expression.{Expression, Parsed, parsed, unread, expression, valueOf}
-use Rattle.model.specs.Form.{Keyword, classWord, fieldWord, methodWord, endWord, objectWord, setWord, sendWord, replyWord, whenWord, otherWord, keywordOf, Statement}
+use Rattle.model.specs.Word.{isName}
+use Rattle.model.specs.Expression.{Expression, Parsed, valueOf}
+use Rattle.model.specs.Form.{Keyword, classWord, fieldWord, methodWord, endWord, objectWord, setWord, sendWord, replyWord, whenWord, otherWord, Action, Statement}
 use Rattle.model.specs.Library.{Member, memberPlace, classNumber}
 use Rattle.lex.specs.Scan.{isByte, before}
 use Rattle.lex.specs.Piece.{piecesAfter, first, others, isEmpty, first-piece, empty-after}
+use Rattle.syntax.specs.Kinds.{isAction, isTarget}
 use Rattle.words.specs.View.{memberCount, membersOf, libraryOf}
 use Rattle.evaluate.specs.declared.Value.{Value}
 use Rattle.evaluate.specs.Valued.{valued}
 use Rattle.state.specs.Row.{Turn, misfit, skip, assign, reply}
-use Rattle.state.specs.Turn.{bodyIn, fieldIn, callTurn, statementTurn}
+use Rattle.state.specs.Turn.{bodyIn, fieldIn, callTurn, actionTurn, statementTurn}
 use Rattle.turns.specs.declared.line.Frame.{Frame}
 
 abbrev pub isWhen : Keyword → Bool
@@ -31,6 +34,23 @@ isWhen sendWord = false
 isWhen replyWord = false
 isWhen whenWord = true
 isWhen otherWord = false
+
+-- "to self", at the front.
+abbrev pub isToSelf : List (List ℕ) → Bool
+isToSelf ws = same (first ws) (bytes "to") && same (first (others ws)) (bytes "self")
+
+-- The words behind a keyword are those of an action up to its expression.
+abbrev pub isBegun : Keyword → List (List ℕ) → Bool
+isBegun classWord ws = false
+isBegun fieldWord ws = false
+isBegun methodWord ws = false
+isBegun endWord ws = false
+isBegun objectWord ws = false
+isBegun setWord ws = isName (first ws)
+isBegun sendWord ws = isToSelf (others ws) && isTarget (pieces 46 (first ws))
+isBegun replyWord ws = true
+isBegun whenWord ws = false
+isBegun otherWord ws = false
 
 -- The words from an action's expression on, of those behind its keyword.
 abbrev pub skipped : Keyword → List (List ℕ) → List (List ℕ)
@@ -71,10 +91,9 @@ actedTurn text tables frame objectWord w v = misfit
 actedTurn text tables frame whenWord w v = misfit
 actedTurn text tables frame otherWord w v = misfit
 
--- A turn by the value of the expression that was read.
-abbrev pub readTurn : (ℕ → Turn) → (Expression → ℕ) → Parsed → Turn
-readTurn turn value (parsed e ws) = turn (value e)
-readTurn turn value unread = misfit
+-- The turn of an action behind a guard of value 0; a misfit where there is no action.
+abbrev pub skippedTurn : Option Action → Turn
+skippedTurn a = cond (isAction a) skip misfit
 
 -- In a frame whose object has the values `own`.
 module _ (text tables own : List ℕ) (frame : Frame) where
@@ -88,14 +107,10 @@ module _ (text tables own : List ℕ) (frame : Frame) where
   abbrev pub turnIn : Statement → Turn
   turnIn = statementTurn text tables (frame .class) (frame .base) (frame .depth) valueIn
 
-  -- The turn of the words behind a keyword.
-  abbrev pub wordsTurn : Keyword → List (List ℕ) → Turn
-  wordsTurn k ws = readTurn (actedTurn text tables frame k (first ws)) valueIn (expression (skipped k ws))
-
-  -- The turn of the words behind `when`.
-  abbrev pub guardedTurn : Parsed → Turn
-  guardedTurn (parsed e ws) = cond (eqb (valueIn e) 0) skip (wordsTurn (keywordOf (first ws)) (others ws))
-  guardedTurn unread = misfit
+  -- The turn of an action that was read; a misfit where there is none.
+  abbrev pub formedTurn : Option Action → Turn
+  formedTurn none = misfit
+  formedTurn (some a) = actionTurn text tables (frame .class) (frame .base) (frame .depth) valueIn a
 
 -- The target t, whose first point is at e, or which has none.
 module _ (text tables : List ℕ) (c : ℕ) (t : List ℕ) (e : ℕ) (h : e ≡ 0 + before (isByte 46) t) where

@@ -19,6 +19,11 @@ pub record Bounds (m : Member) (first end : ℕ) : Type 0 where
   pub first-is : first ≡ m .first
   pub end-is : end ≡ m .first + m .count
 
+-- The class whose writing of its method at place j class k has; the number of classes where it has none there.
+unfoldable pub originAt : List ℕ → ℕ → ℕ → ℕ
+unfolding shownCount classWord
+originAt tables k j = cond (ltb j (shownCount tables k 1)) (classWord tables k (8 + (1 * 64 + j)) / 1048576) (classCount tables)
+
 -- The method is at place j of class k, by a look-up that does not ask whether there is such a class.
 module _ (text tables : List ℕ) (k : ℕ) (n : Name) (j : ℕ) (e : j ≡ memberPlace (membersOf text tables k 1) n) where
   abbrev methods : List Member
@@ -47,7 +52,7 @@ module _ (text tables : List ℕ) (k : ℕ) (n : Name) (j : ℕ) (e : j ≡ memb
         ∙ ap (λ (i : ℕ). getD (membersOf text tables k 1) i d) (sym e)
         ∙ getD-upto (memberAt text tables k 1) (memberCount tables k 1) j d (there .1)
 
-    pub origin-there : byFirstParent (libraryOf text tables) k n ≡ classWord tables k (8 + (1 * 64 + j)) / 1048576
+    origin-there : byFirstParent (libraryOf text tables) k n ≡ classWord tables k (8 + (1 * 64 + j)) / 1048576
     unfolding byFirstParent memberAt
     origin-there =
         let d : Member = record { origin = length (libraryOf text tables .classes); name = []; first = 0; count = 0 } in
@@ -66,7 +71,7 @@ module _ (text tables : List ℕ) (k : ℕ) (n : Name) (j : ℕ) (e : j ≡ memb
         side true t l = rw (all-shown t) (omega (arith, member-count text tables k 1))
         side false t l = rw (none-shown t) (omega arith)
 
-    pub origin-none : byFirstParent (libraryOf text tables) k n ≡ classCount tables
+    origin-none : byFirstParent (libraryOf text tables) k n ≡ classCount tables
     unfolding byFirstParent
     origin-none =
         let f : Member → ℕ = λ m. m .origin in
@@ -77,8 +82,20 @@ module _ (text tables : List ℕ) (k : ℕ) (n : Name) (j : ℕ) (e : j ≡ memb
     unfolding member
     member-none = List·getD-eq-default methods noMember not-there
 
--- The body of class c's method n, which class k writes.
-module _ (text tables : List ℕ) (c k : ℕ) (n : Name) (o : k ≡ byFirstParent (libraryOf text tables) c n) where
+  origin-is : originAt tables k j ≡ byFirstParent (libraryOf text tables) k n
+  unfolding originAt
+  origin-is = go (ltb j (shownCount tables k 1)) refl
+    where
+      go : (t : Bool) → ltb j (shownCount tables k 1) ≡ t
+          → cond t (classWord tables k (8 + (1 * 64 + j)) / 1048576) (classCount tables) ≡ byFirstParent (libraryOf text tables) k n
+      go true t = sym (origin-there (ltb-true j (shownCount tables k 1) t))
+      go false t = sym (origin-none (ltb-false j (shownCount tables k 1) t))
+
+-- The body of class c's method n, which is at place i there and which class k writes.
+module _ (text tables : List ℕ) (c k : ℕ) (n : Name) (i : ℕ) (f : i ≡ memberPlace (membersOf text tables c 1) n) (a : k ≡ originAt tables c i) where
+  o : k ≡ byFirstParent (libraryOf text tables) c n
+  o = a ∙ origin-is text tables c n i f
+
   body-by : (m : Member) → member (classAt (libraryOf text tables) k .methods) n ≡ m → bodyIn text tables c n ≡ m
   unfolding bodyIn
   body-by m e = ap (λ (d : ℕ). member (classAt (libraryOf text tables) d .methods) n) (sym o) ∙ e

@@ -1,9 +1,9 @@
 // The body that a class runs for a method's name.
 ghost use mathlib.Core.Path.{_≡_};
-ghost use Rattle.model.specs.Library.{byFirstParent};
-ghost use Rattle.words.specs.View.{libraryOf};
+ghost use Rattle.model.specs.Library.{memberPlace};
+ghost use Rattle.words.specs.View.{membersOf};
 ghost use Rattle.state.specs.Turn.{bodyIn};
-ghost use Rattle.turns.specs.Bodies.{Bounds};
+ghost use Rattle.turns.specs.Bodies.{Bounds, originAt};
 
 const METHODS: u32 = 1;
 
@@ -13,11 +13,10 @@ pub struct Body {
     pub end: u32,
 }
 
-// The class whose writing of the method a class has; the number of classes where it has no such method.
-fn origin_of(text: &[u8], tables: &[u32], class: u32, name: &[u8]) -> u32
-    ensures { λ r. ⌜ r ≡ byFirstParent (libraryOf (now (text .entry)) (now (tables .entry))) class (now (name .entry)) ⌝ }
+// The class whose writing of the method at a place a class has; the number of classes where it has none there.
+fn origin_at(tables: &[u32], class: u32, place: u32) -> u32
+    ensures { λ r. ⌜ r ≡ originAt (now (tables .entry)) class place ⌝ }
 {
-    let place = words::find(text, tables, class, METHODS, name);
     if place < words::shown_count(tables, class, METHODS) {
         words::member_word(tables, class, METHODS, place) / 1048576
     } else {
@@ -25,12 +24,24 @@ fn origin_of(text: &[u8], tables: &[u32], class: u32, name: &[u8]) -> u32
     }
 }
 
+// The place of the method in the class that writes it. Where a class writes its own, it has been found.
+fn place_in(text: &[u8], tables: &[u32], class: u32, found: u32, origin: u32, name: &[u8]) -> u32
+    requires { ⌜ found ≡ memberPlace (membersOf (now text) (now tables) class 1) (now name) ⌝ }
+    ensures { λ r. ⌜ r ≡ memberPlace (membersOf (now (text .entry)) (now (tables .entry)) origin 1) (now (name .entry)) ⌝ }
+{
+    if origin == class {
+        return found;
+    }
+    words::find(text, tables, origin, METHODS, name)
+}
+
 // The body of a class's method of that name; an empty one where there is no such method.
 pub fn body_in(text: &[u8], tables: &[u32], class: u32, name: &[u8]) -> Body
     ensures { λ r. ⌜ Bounds (bodyIn (now (text .entry)) (now (tables .entry)) class (now (name .entry))) (r .first) (r .end) ⌝ }
 {
-    let origin = origin_of(text, tables, class, name);
-    let place = words::find(text, tables, origin, METHODS, name);
+    let found = words::find(text, tables, class, METHODS, name);
+    let origin = origin_at(tables, class, found);
+    let place = place_in(text, tables, class, found, origin, name);
     if place < words::shown_count(tables, origin, METHODS) {
         let word = words::body_word(tables, origin, METHODS, place);
         Body {

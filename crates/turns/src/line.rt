@@ -1,25 +1,22 @@
-// The turn of a statement, read from its line. A line that is no statement is a misfit; of one that is, only those words
-// are looked at that the turn needs.
+// The turn of a statement, read from its line; a line that is no statement is a misfit. Whether it is one shows as its turn is
+// found, so that each expression is read once.
 use super::body::Body;
 use super::body::body_in;
 use evaluate::Value;
 use rows::Turn;
-use syntax::form::Kind;
 use syntax::keyword::Keyword;
 use syntax::keyword::keyword_of;
 ghost use mathlib.Core.Path.{_≡_};
 ghost use lib.ListN.{drop};
-ghost use lib.Dec.{eqb};
 ghost use Rattle.model.specs.Text.{pieces, words};
 ghost use Rattle.model.specs.Expression.{expression};
-ghost use Rattle.model.specs.Form.{formOf};
+ghost use Rattle.model.specs.Form.{actionOf, whenForm, formOf};
 ghost use Rattle.lex.specs.Piece.{wordsAfter};
 ghost use Rattle.syntax.specs.Keywords.{saidKeyword};
-ghost use Rattle.syntax.specs.Kinds.{said};
 ghost use Rattle.state.specs.Turn.{callTurn, formTurn, lineTurn};
 ghost use Rattle.rows.specs.Carried.{saidTurn};
 ghost use Rattle.turns.specs.Bodies.{Bounds};
-ghost use Rattle.turns.specs.Actions.{isWhen, skipped, targetBody, setTurn, actedTurn, valuedIn, turnIn, wordsTurn, guardedTurn};
+ghost use Rattle.turns.specs.Actions.{isWhen, isToSelf, isBegun, skipped, targetBody, setTurn, actedTurn, skippedTurn, valuedIn, turnIn, formedTurn};
 
 const FIELDS: u32 = 0;
 
@@ -98,6 +95,41 @@ fn acted_turn(
     }
 }
 
+// The words behind `at` begin with `to self`.
+fn is_to_self(line: &[u8], at: usize) -> bool
+    ensures { λ r. ⌜ r ≡ isToSelf (wordsAfter (drop at (now (line .entry)))) ⌝ }
+{
+    if !lex::same(lex::word_after(line, at), b"to") {
+        return false;
+    }
+    let to = lex::word_end_after(line, at);
+    lex::same(lex::word_after(line, to), b"self")
+}
+
+// The words behind `at`, up to the expression, are as the keyword of an action asks.
+fn is_begun(keyword: Keyword, line: &[u8], at: usize) -> bool
+    ensures { λ r. ⌜ r ≡ isBegun (saidKeyword keyword) (wordsAfter (drop at (now (line .entry)))) ⌝ }
+{
+    match keyword {
+        Keyword::Set => lex::is_name(lex::word_after(line, at)),
+        Keyword::Send => {
+            let target = lex::word_end_after(line, at);
+            if !is_to_self(line, target) {
+                return false;
+            }
+            syntax::form::is_target(lex::word_after(line, at))
+        }
+        Keyword::Reply => true,
+        Keyword::Class => false,
+        Keyword::Field => false,
+        Keyword::Method => false,
+        Keyword::End => false,
+        Keyword::Object => false,
+        Keyword::When => false,
+        Keyword::Other => false,
+    }
+}
+
 // The place before an action's expression, whose keyword ends at `at`.
 fn expression_place(keyword: Keyword, line: &[u8], at: usize) -> usize
     ensures { λ r. ⌜ wordsAfter (drop r (now (line .entry))) ≡ skipped (saidKeyword keyword) (wordsAfter (drop at (now (line .entry)))) ⌝ }
@@ -145,7 +177,7 @@ fn value_behind(
     )
 }
 
-// The turn of an action whose keyword ends at `at`.
+// The turn of an action whose keyword ends at `at`; Misfit where the words are no action.
 fn words_turn(
     text: &[u8],
     tables: &[u32],
@@ -155,24 +187,37 @@ fn words_turn(
     line: &[u8],
     at: usize,
 ) -> Turn
-    ensures { λ r. ⌜ saidTurn r ≡ wordsTurn (now (text .entry)) (now (tables .entry)) (now (own .entry)) frame (saidKeyword keyword) (wordsAfter (drop at (now (line .entry)))) ⌝ }
+    ensures { λ r. ⌜ saidTurn r ≡ formedTurn (now (text .entry)) (now (tables .entry)) (now (own .entry)) frame (actionOf (saidKeyword keyword) (wordsAfter (drop at (now (line .entry))))) ⌝ }
 {
+    if !is_begun(keyword, line, at) {
+        return Turn::Misfit;
+    }
     let place = expression_place(keyword, line, at);
     let value = value_behind(text, tables, own, frame, line, place);
     match value {
-        Value::Found(number, _) => acted_turn(
-            text,
-            tables,
-            frame,
-            keyword,
-            lex::word_after(line, at),
-            number,
-        ),
+        Value::Found(number, end) => {
+            if end < line.len() {
+                return Turn::Misfit;
+            }
+            let word = lex::word_after(line, at);
+            acted_turn(text, tables, frame, keyword, word, number)
+        }
         Value::Nothing => Turn::Misfit,
     }
 }
 
-// The turn of a statement behind `when`, which ends at `at`.
+// The turn of an action behind a guard of value 0, whose keyword ends at `at`; Misfit where the words are no action.
+fn skipped_turn(keyword: Keyword, line: &[u8], at: usize) -> Turn
+    ensures { λ r. ⌜ saidTurn r ≡ skippedTurn (actionOf (saidKeyword keyword) (wordsAfter (drop at (now (line .entry))))) ⌝ }
+{
+    if syntax::form::is_action(keyword, line, at) {
+        Turn::Skip
+    } else {
+        Turn::Misfit
+    }
+}
+
+// The turn of a statement whose `when` ends at `at`; Misfit where the words are no statement.
 fn guarded_turn(
     text: &[u8],
     tables: &[u32],
@@ -181,41 +226,19 @@ fn guarded_turn(
     line: &[u8],
     at: usize,
 ) -> Turn
-    ensures { λ r. ⌜ saidTurn r ≡ guardedTurn (now (text .entry)) (now (tables .entry)) (now (own .entry)) frame (expression (wordsAfter (drop at (now (line .entry))))) ⌝ }
+    ensures { λ r. ⌜ saidTurn r ≡ formTurn (whenForm (expression (wordsAfter (drop at (now (line .entry)))))) (turnIn (now (text .entry)) (now (tables .entry)) (now (own .entry)) frame) ⌝ }
 {
     let guard = value_behind(text, tables, own, frame, line, at);
     match guard {
         Value::Found(number, end) => {
-            if number == 0 {
-                return Turn::Skip;
-            }
             let keyword = keyword_of(lex::word_after(line, end));
-            words_turn(
-                text,
-                tables,
-                own,
-                frame,
-                keyword,
-                line,
-                lex::word_end_after(line, end),
-            )
+            let place = lex::word_end_after(line, end);
+            if number == 0 {
+                return skipped_turn(keyword, line, place);
+            }
+            words_turn(text, tables, own, frame, keyword, line, place)
         }
         Value::Nothing => Turn::Misfit,
-    }
-}
-
-// The line is a statement by its kind.
-fn is_statement(kind: Kind) -> bool
-    ensures { λ r. ⌜ r ≡ eqb (said kind) 3 ⌝ }
-{
-    match kind {
-        Kind::Class => false,
-        Kind::Field => false,
-        Kind::Method => false,
-        Kind::Statement => true,
-        Kind::End => false,
-        Kind::Object => false,
-        Kind::Malformed => false,
     }
 }
 
@@ -241,9 +264,6 @@ fn is_when(keyword: Keyword) -> bool
 fn statement_turn(text: &[u8], tables: &[u32], own: &[u32], frame: Frame, line: &[u8]) -> Turn
     ensures { λ r. ⌜ saidTurn r ≡ formTurn (formOf (words (now (line .entry)))) (turnIn (now (text .entry)) (now (tables .entry)) (now (own .entry)) frame) ⌝ }
 {
-    if !is_statement(syntax::form::kind_of(line)) {
-        return Turn::Misfit;
-    }
     let at = lex::word_end(line, 0);
     let keyword = keyword_of(&line[..at]);
     if is_when(keyword) {

@@ -1,7 +1,9 @@
 // The objects that a message visits: one, those of a class, or those of a domain, in text order.
+ghost use Prim.Native.Nat.{_-_};
 ghost use mathlib.Core.Path.{_≡_};
+ghost use lib.Dec.{eqb};
 ghost use Rattle.words.specs.View.{bit};
-ghost use Rattle.state.specs.Turn.{inTarget, objectFrom};
+ghost use Rattle.state.specs.Turn.{inTarget, firstFrom, objectFrom};
 
 // The mask has the bit; no mask has one past its 32.
 fn has_bit(mask: u32, place: u32) -> bool
@@ -28,8 +30,21 @@ fn in_target(tables: &[u32], kind: u32, number: u32, object: u32) -> bool
     has_bit(words::class_word(tables, number, 5), class)
 }
 
-// The first object to visit from a number on; where there is none the number of objects, or `from` itself past that.
-pub fn object_from(tables: &[u32], kind: u32, number: u32, from: u32) -> u32
+// The number itself, if it is one of those from `from` up to `end`; else `end`, or `from` past that.
+fn one_from(number: u32, from: u32, end: u32) -> u32
+    ensures { λ r. ⌜ r ≡ firstFrom (λ o. eqb o number) from (end - from) ⌝ }
+{
+    if end <= from {
+        return from;
+    }
+    if number < from {
+        return end;
+    }
+    if number < end { number } else { end }
+}
+
+// The first object to visit from a number on, by a look at each.
+fn object_among(tables: &[u32], kind: u32, number: u32, from: u32) -> u32
     ensures { λ r. ⌜ r ≡ objectFrom (now (tables .entry)) kind number from ⌝ }
 {
     let count = words::object_count(tables);
@@ -41,4 +56,15 @@ pub fn object_from(tables: &[u32], kind: u32, number: u32, from: u32) -> u32
         object += 1;
     }
     object
+}
+
+// The first object to visit from a number on; where there is none the number of objects, or `from` itself past that. A
+// message to one object looks at no other.
+pub fn object_from(tables: &[u32], kind: u32, number: u32, from: u32) -> u32
+    ensures { λ r. ⌜ r ≡ objectFrom (now (tables .entry)) kind number from ⌝ }
+{
+    if kind == 0 {
+        return one_from(number, from, words::object_count(tables));
+    }
+    object_among(tables, kind, number, from)
 }

@@ -93,7 +93,14 @@ fn locks(program: Option<&String>) {
     println!("| begin, commit | {} |", shown(made(&[begin, commit])));
     println!("| begin, send, abort | {} |", shown(made(&[begin, send, abort])));
     println!("| begin, send, step, commit | {} |", shown(whole));
-    for (word, what) in [("plain", "one locker"), ("lockers", "a locker for each"), ("threads", "one locker, for threads")] {
+    let ways = [
+        ("plain", "one locker, one thread"),
+        ("lockers", "a locker for each transaction, one thread"),
+        ("threads", "one locker, several threads"),
+        ("service", "a locker for each transaction, several threads"),
+        ("processes", "a locker for each transaction, several processes"),
+    ];
+    for (word, what) in ways {
         if let Some(program) = program {
             let theirs = clock::of_program(program, word);
             println!("| Berkeley DB, {what} | {} ({:.1} times begin, send, step, commit) |", shown(theirs), theirs / whole);

@@ -1,4 +1,4 @@
--- `lex::all_name_bytes` meets its contract: at each turn the bytes left may all stand in a name iff all may.
+-- `lex::all_name_bytes` meets its contract: at each turn the bytes left may all stand in a name iff all from `from` on may.
 use borrow.Author.Needs.{needs}
 use borrow.Author.Tests.{not-true, not-false}
 use Prim.Native.Nat.{_-_}
@@ -12,10 +12,10 @@ use Rattle.lex.proofs.all_name_bytes.Statement.{statement}
 use Rattle.lex.proofs.all_name_bytes.Tie as tie
 
 abbrev Inv-loop : tie.InvT-loop
-Inv-loop word i₀ i = every isNameByte (drop i word) ≡ every isNameByte word
+Inv-loop word from i₀ i = every isNameByte (drop i word) ≡ every isNameByte (drop from word)
 
 abbrev μ-loop : tie.MeasureT-loop
-μ-loop word i₀ i = length word - i
+μ-loop word from i₀ i = length word - i
 
 loop-holds : tie.Need-loop-holds Inv-loop μ-loop
 loop-holds c = refl

@@ -1,8 +1,11 @@
--- `lex::is_name` meets its contract: where the word begins well and is short enough, the two tests left are the definition's.
+-- `lex::is_name` meets its contract: where the word begins well and is short enough, the two tests left are the definition's, the
+-- first of them on the bytes behind the first.
 use borrow.Author.Needs.{needs}
-use mathlib.Core.Path.{sym}
+use mathlib.Core.Path.{sym, _∙_}
 use mathlib.Core.Bool.{not, _&&_}
 use Rattle.model.specs.Word.{isName}
+use Rattle.lex.specs.Tests.{and-true}
+use Rattle.lex.proofs.ListLaws.{every-behind}
 use Rattle.lex.proofs.is_name.Statement.{statement}
 use Rattle.lex.proofs.is_name.Tie as tie
 
@@ -19,7 +22,9 @@ returns : tie.Need-returns
 unfolding isName
 returns c =
     let b = sym (c .before .before .before .begins-with-letter .ensures) in
-    rw (b, c .before .before .if1 .taken) (λ i. c .before .all-name-bytes .ensures i && not (c .is-reserved .ensures i))
+    let t = c .before .before .if1 .taken in
+    let n = c .before .all-name-bytes .ensures ∙ every-behind (c .before .before .before .before .before .args .word .now) (b ∙ and-true _ t .0) in
+    rw (b, t) (λ i. n i && not (c .is-reserved .ensures i))
 
 returns-2 : tie.Need-returns-2
 unfolding isName

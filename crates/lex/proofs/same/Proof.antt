@@ -4,7 +4,8 @@ use mathlib.Core.Path.{_≡_, refl, sym, _∙_}
 use native.Mathlib.Omega.{arith}
 use lib.ListN.{length, drop}
 use Rattle.model.specs.Base.{same}
-use Rattle.lex.proofs.ListLaws.{same-lengths, same-end, same-differ, same-more}
+use Rattle.lex.specs.Among.{same-lengths}
+use Rattle.lex.proofs.ListLaws.{same-end, same-differ, same-more}
 use Rattle.lex.proofs.same.Statement.{statement}
 use Rattle.lex.proofs.same.Tie as tie
 

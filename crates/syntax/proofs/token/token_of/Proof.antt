@@ -1,47 +1,59 @@
--- `token_of` meets its contract: each choice is one of the definition's tests, behind them the leaf's.
+-- `token_of` meets its contract: the word's length and first byte leave the tests that are made.
 use borrow.Author.Needs.{needs}
-use Rattle.model.specs.Expression.{tokenOf}
-use Rattle.syntax.specs.declared.token.Operator.the-variants.{Plus, Minus, Times, Less, Equal}
-use Rattle.syntax.specs.declared.token.Token.the-variants.{Sign}
-use Rattle.syntax.specs.Chosen.{chosen}
-use Rattle.syntax.specs.Tokens.{saidToken, leafOf}
+use mathlib.Core.Path.{ap, _∙_}
+use Rattle.syntax.specs.Tokens.{saidToken, literal-said}
+use Rattle.syntax.proofs.TokenLaws.{empty, one-byte, named, numbered}
 use Rattle.syntax.proofs.token.token_of.Statement.{statement}
 use Rattle.syntax.proofs.token.token_of.Tie as tie
 
 returns : tie.Need-returns
-unfolding tokenOf leafOf
-returns c =
-    let c4 = c .before .before .before in
-    let c3 = c4 .before .before .before in
-    let c2 = c3 .before .before .before in
-    let c1 = c2 .before .before .before in
-    let l = c1 .before .before .before in
-    let w = l .before .before .args .word .now in
-    chosen (saidToken w) (Sign Plus) (c .choose5 .ensures) (c .before .same5 .ensures)
-    (chosen (saidToken w) (Sign Minus) (c4 .choose4 .ensures) (c4 .before .same4 .ensures)
-    (chosen (saidToken w) (Sign Times) (c3 .choose3 .ensures) (c3 .before .same3 .ensures)
-    (chosen (saidToken w) (Sign Less) (c2 .choose2 .ensures) (c2 .before .same2 .ensures)
-    (chosen (saidToken w) (Sign Equal) (c1 .choose .ensures) (c1 .before .same .ensures)
-    (l .leaf-of .ensures)))))
+returns c = empty (c .before .before .args .word .now) (c .if1 .taken)
+
+shared-slice-read-first : tie.Need-shared-slice-read-first
+shared-slice-read-first c = search needs
+
+token-of-byte-requires : tie.Need-token-of-byte-requires
+token-of-byte-requires c κs = search needs
+
+returns-2 : tie.Need-returns-2
+returns-2 c =
+    one-byte (c .before .before .before .before .before .args .word .now) (c .token-of-byte .result) (c .before .if2 .taken) (c .token-of-byte .ensures)
+
+token-of-name-requires : tie.Need-token-of-name-requires
+token-of-name-requires c κs = search needs
+
+returns-3 : tie.Need-returns-3
+returns-3 c =
+    let l = c .before in
+    let o = l .before in
+    let e = o .before .before in
+    c .token-of-name .ensures ∙ named (e .before .before .args .word .now) (e .if1 .left) (o .if2 .left) (l .if3 .taken)
+
+number-of-requires : tie.Need-number-of-requires
+number-of-requires c κs = search needs
+
+literal-requires : tie.Need-literal-requires
+literal-requires c κs = search needs
+
+returns-4 : tie.Need-returns-4
+returns-4 c =
+    let n = c .before .number-of in
+    let l = c .before .before in
+    let o = l .before in
+    let e = o .before .before in
+    let w = e .before .before .args .word .now in
+    ap (saidToken w) (c .literal .ensures) ∙ literal-said w (n .result) (n .ensures) ∙ numbered w (e .if1 .left) (o .if2 .left) (l .if3 .left)
 
 pub token-of-spec : {M : Type 1} → statement M
 token-of-spec =
     tie.close
     (tie.spec
-    (λ c κs. search needs)
-    (λ c. search needs)
-    (λ c κs. search needs)
-    (λ c κs. search needs)
-    (λ c. search needs)
-    (λ c κs. search needs)
-    (λ c κs. search needs)
-    (λ c. search needs)
-    (λ c κs. search needs)
-    (λ c κs. search needs)
-    (λ c. search needs)
-    (λ c κs. search needs)
-    (λ c κs. search needs)
-    (λ c. search needs)
-    (λ c κs. search needs)
-    (λ c κs. search needs)
-    returns)
+    returns
+    shared-slice-read-first
+    token-of-byte-requires
+    returns-2
+    token-of-name-requires
+    returns-3
+    number-of-requires
+    literal-requires
+    returns-4)

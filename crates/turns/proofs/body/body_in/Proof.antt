@@ -1,4 +1,4 @@
--- `body_in` meets its contract: the method is looked up again in the class that writes it, where its body's word says the rest.
+-- `body_in` meets its contract: the method's place in the class that writes it, where its body's word says the rest.
 use borrow.Author.Needs.{needs}
 use native.Mathlib.Omega.{arith}
 use Rattle.turns.specs.Bodies.{body-there, body-none}
@@ -8,20 +8,28 @@ use Rattle.turns.proofs.body.body_in.Tie as tie
 returns : tie.Need-returns
 returns c =
     let s = c .before .before in
-    let f = s .before in
-    let o = f .before in
-    body-there _ _ _ _ _ (o .origin-of .ensures) _ (f .find .ensures)
+    let p = s .before in
+    let o = p .before in
+    body-there _ _ _ _ _ _ (o .before .find .ensures) (o .origin-at .ensures) _ (p .place-in .ensures)
     _ (c .body-word .ensures) (omega (arith, s .shown-count .ensures))
 
 returns-2 : tie.Need-returns-2
 returns-2 c =
     let s = c .before in
-    let f = s .before in
-    let o = f .before in
-    body-none _ _ _ _ _ (o .origin-of .ensures) _ (f .find .ensures)
+    let p = s .before in
+    let o = p .before in
+    body-none _ _ _ _ _ _ (o .before .find .ensures) (o .origin-at .ensures) _ (p .place-in .ensures)
     (omega (arith, s .shown-count .ensures))
 
 pub body-in-spec : {M : Type 1} → statement M
 body-in-spec =
     tie.close
-    (tie.spec (λ c κs. search needs) (λ c κs. search needs) (λ c κs. search needs) (λ c κs. search needs) (λ c. search needs) returns returns-2)
+    (tie.spec
+    (λ c κs. search needs)
+    (λ c κs. search needs)
+    (λ c κs. search needs)
+    (λ c κs. search needs)
+    (λ c κs. search needs)
+    (λ c. search needs)
+    returns
+    returns-2)
