@@ -1,4 +1,4 @@
--- `lex::is_reserved` meets its contract: each arm compares the word with the reserved ones of its length, and words of other lengths differ from it.
+-- `lex::is_reserved` meets its contract: each arm compares the word with the reserved ones of its length; the others differ from it.
 use borrow.Author.Needs.{needs}
 use borrow.Author.Tests.{ne-eqb}
 use mathlib.Core.Path.{_∙_}
