@@ -1,7 +1,8 @@
 //! How fast the proved library is: beside the second implementation, both in turn in one run, and, where its program is named
 //! as the argument, beside Berkeley DB's lock subsystem. Prints the tables of docs/PERFORMANCE.md.
 //!   benchmark [PROGRAM]
-//!   benchmark profile    makes some of each call once, for callgrind
+//!   benchmark profile        makes some of each call once, for callgrind
+//!   benchmark transactions   makes 100 transactions of a send to an object, for callgrind
 
 mod clock;
 mod texts;
@@ -75,9 +76,12 @@ fn machine(samples: &[(String, Vec<u8>)]) {
 /// A call on slot 0, on a text, a state and values.
 type OneCall = fn(&[u8], &mut [u32], &mut [u32]) -> lent::Outcome;
 
+/// A method with an empty body.
+const EMPTY: &[u8] = b"class a\nmethod m\nend\nobject o a\n";
+
 /// A transaction of a send to an object whose method has an empty body, and its parts, beside Berkeley DB's lock subsystem.
 fn locks(program: Option<&String>) {
-    let text = b"class a\nmethod m\nend\nobject o a\n";
+    let text = EMPTY;
     let (mut values, mut state) = ([0; 0], vec![0; STATE_WORDS]);
     lent::start(text, &values, &mut state).unwrap();
     let mut made = |calls: &[OneCall]| {
@@ -137,21 +141,28 @@ fn profile() {
     let mut image = vec![0; wrapper::LONGEST_IMAGE];
     wrapper::compile(&texts::large()[0], &mut image).unwrap();
     for (_, text) in texts::messages() {
-        let mut values = reference::read(&text).unwrap().starting_values();
-        let mut machine = wrapper::machine::Machine::start(&text, &mut values).unwrap();
-        for _ in 0..100 {
-            machine.begin(0).unwrap();
-            machine.send(0, wrapper::machine::Target::Object(0), 0, 3).unwrap();
-            while machine.step(0) == Ok(wrapper::machine::Step::Going) {}
-            machine.commit(0).unwrap();
-        }
+        transactions(&text);
+    }
+}
+
+/// 100 transactions of a send to the first object.
+fn transactions(text: &[u8]) {
+    let mut values = reference::read(text).unwrap().starting_values();
+    let mut machine = wrapper::machine::Machine::start(text, &mut values).unwrap();
+    for _ in 0..100 {
+        machine.begin(0).unwrap();
+        machine.send(0, wrapper::machine::Target::Object(0), 0, 3).unwrap();
+        while machine.step(0) == Ok(wrapper::machine::Step::Going) {}
+        machine.commit(0).unwrap();
     }
 }
 
 fn main() {
     let word = std::env::args().nth(1);
-    if word.as_deref() == Some("profile") {
-        return profile();
+    match word.as_deref() {
+        Some("profile") => return profile(),
+        Some("transactions") => return transactions(EMPTY),
+        _ => {}
     }
     let samples = texts::samples();
     println!("| what | on | ours | second | ratio |\n|---|---|---|---|---|");
