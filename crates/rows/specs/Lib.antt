@@ -1,3 +1,1 @@
 pub mod Carried
-pub mod Over
-pub mod Freed

@@ -66,7 +66,7 @@ fn free(state: &mut [u32], slot: u32)
 {
     let start = 8072 + slot as usize * 2264;
     let end = start + 2264;
-    rows::clear(&mut state[start..end]);
+    undo::clear(&mut state[start..end]);
 }
 
 // A closed slot is open.
@@ -86,7 +86,7 @@ fn undo(state: &[u32], values: &mut [u32], slot: u32)
 {
     let start = 8072 + slot as usize * 2264;
     let end = start + 2264;
-    rows::put_back(&state[start..end], values);
+    undo::put_back(&state[start..end], values);
 }
 
 // Opens a slot for a transaction.

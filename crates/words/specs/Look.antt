@@ -1,6 +1,6 @@
 -- Look-ups in the library that the tables say: how long its lists are, what stands at a number, and that a name is known
 -- exactly if its place is not the end.
-use Prim.Native.Nat.{ℕ, zero, suc, _≤_, _<_}
+use Prim.Native.Nat.{ℕ, zero, suc, _+_, _*_, _≤_, _<_}
 use mathlib.Core.Path.{_≡_, refl, ap, _∙_}
 use mathlib.Core.Bool.{Bool, true, false, cond}
 use mathlib.Core.List.{List, []}
@@ -10,14 +10,19 @@ use lib.Dec.{ltb}
 use borrow.Author.Tests.{ltb-true, ltb-false}
 use Rattle.model.specs.Base.{same, any, firstAt, upto}
 use Rattle.model.specs.Word.{Name}
-use Rattle.model.specs.Library.{Member, Class, noMember, noClass, memberPlace, among, classNumber, isClass, classAt}
-use Rattle.words.specs.View.{classCount, statementCount, objectCount, memberCount, memberAt, membersOf, classOf, placedOf, objectOf, libraryOf}
-use Rattle.words.specs.Upto.{length-upto, getD-upto, any-first, first-within}
+use Rattle.model.specs.Library.{Member, Class, Object, noMember, noClass, memberPlace, among, classNumber, isClass, classAt}
+use Rattle.words.specs.View.{nameOf, classWord, objectWord, classCount, statementCount, objectCount, memberCount, memberAt, membersOf, classOf, placedOf, objectOf, libraryOf}
+use Rattle.words.specs.Upto.{length-upto, getD-upto, any-first, first-within, first-same}
 
 -- How many fields (p is 0) or methods (p is 1) the class with a number has; none where no class has it.
 unfoldable pub shownCount : List ℕ → ℕ → ℕ → ℕ
 unfolding memberCount
 shownCount ws k p = cond (ltb k (classCount ws)) (memberCount ws k p) 0
+
+-- The first of n names that is the name; n where none is. Their words stand `step` places apart, the first at `from`.
+unfoldable pub firstNamed : List ℕ → List ℕ → ℕ → ℕ → ℕ → Name → ℕ
+unfolding firstAt upto nameOf same
+firstNamed text ws from step n name = firstAt (λ w. same (nameOf text w) name) (upto (λ i. getD ws (from + i * step) 0) n)
 
 -- The fields of a class, or its methods.
 abbrev pub part : ℕ → Class → List Member
@@ -89,3 +94,31 @@ module _ (text ws : List ℕ) where
 pub among-place : (ms : List Member) (n : Name) → among ms n ≡ ltb (memberPlace ms n) (length ms)
 unfolding among memberPlace
 among-place ms n = any-first (λ (m : Member). same (m .name) n) ms
+
+-- ---- names in rows
+
+module _ (text ws : List ℕ) (n : Name) where
+  abbrev named : ℕ → Bool
+  named w = same (nameOf text w) n
+
+  abbrev at : ℕ → ℕ
+  at i = getD ws i 0
+
+  pub named-member : (k p : ℕ) → firstNamed text ws (8 + (k * 232 + (8 + (p * 64 + 0)))) 1 (memberCount ws k p) n ≡ memberPlace (membersOf text ws k p) n
+  unfolding firstNamed memberPlace membersOf memberAt classWord
+  named-member k p =
+      first-same named (λ (m : Member). same (m .name) n) (λ i. at (8 + (k * 232 + (8 + (p * 64 + 0))) + i * 1)) (memberAt text ws k p)
+      (λ j. let e : 8 + (k * 232 + (8 + (p * 64 + 0))) + j * 1 ≡ 8 + (k * 232 + (8 + (p * 64 + j))) = omega arith in ap (λ (i : ℕ). named (at i)) e)
+      (memberCount ws k p)
+
+  pub named-class : firstNamed text ws 8 232 (classCount ws) n ≡ classNumber (libraryOf text ws) n
+  unfolding firstNamed classNumber libraryOf classOf classWord
+  named-class =
+      first-same named (λ (c : Class). same (c .name) n) (λ i. at (8 + i * 232)) (classOf text ws)
+      (λ j. let e : 8 + j * 232 ≡ 8 + (j * 232 + 0) = omega arith in ap (λ (i : ℕ). named (at i)) e) (classCount ws)
+
+  pub named-object : firstNamed text ws 3720 4 (objectCount ws) n ≡ firstAt (λ o. same (o .name) n) (libraryOf text ws .objects)
+  unfolding firstNamed libraryOf objectOf objectWord
+  named-object =
+      first-same named (λ (o : Object). same (o .name) n) (λ i. at (3720 + i * 4)) (objectOf text ws)
+      (λ j. let e : 3720 + j * 4 ≡ 3720 + (j * 4 + 0) = omega arith in ap (λ (i : ℕ). named (at i)) e) (objectCount ws)

@@ -7,6 +7,7 @@ use mathlib.Core.List.{List, [], _∷_, _++_}
 use native.Mathlib.Nat.{not-suc-le-zero}
 use native.Mathlib.Numerals.{add-one}
 use native.Mathlib.Omega.{arith}
+use native.Mathlib.Decide.{decLt}
 use lib.ListN.{length, getD, length-append, List·getD-append}
 use lib.Seq.{getD-at}
 use lib.Dec.{eqb, ltb, leb·suc-suc}
@@ -187,3 +188,22 @@ module _ {A : Type 0} (p : A → Bool) where
       go : (t : Bool) → eqb j n ≡ t → (j < n → any p (upto f n) ≡ true) → (any p (upto f n) || (p (f n) || false)) ≡ true
       go true t r = let q : p (f n) ≡ true = ap (λ (i : ℕ). p (f i)) (sym (eqb-true j n t)) ∙ e in rw q (or-true (any p (upto f n)))
       go false t r = rw (r (omega (arith, eqb-false j n t)))
+
+-- ---- a search asks only what its test says of each element
+module _ {A B : Type 0} (p : A → Bool) (q : B → Bool) (f : ℕ → A) (g : ℕ → B) (same : (j : ℕ) → p (f j) ≡ q (g j)) where
+  pub first-same : (n : ℕ) → firstAt p (upto f n) ≡ firstAt q (upto g n)
+  unfolding firstAt upto
+  first-same zero = refl
+  first-same (suc n) = go (decLt (firstAt p (upto f n)) n) (first-same n)
+    where
+      go : Dec (firstAt p (upto f n) < n) → firstAt p (upto f n) ≡ firstAt q (upto g n)
+          → firstAt p (upto f n ++ (f n ∷ [])) ≡ firstAt q (upto g n ++ (g n ∷ []))
+      go (yes l) e =
+          first-kept p (upto f n) (f n ∷ []) (omega (arith, length-upto f n)) ∙ e
+          ∙ sym (first-kept q (upto g n) (g n ∷ []) (omega (arith, length-upto g n)))
+      go (no l) e =
+          let a = length-upto f n in
+          let b = length-upto g n in
+          first-past p (p (f n)) (upto f n) (f n) (omega (arith, first-within p (upto f n))) refl
+          ∙ ap₂ (λ (t : Bool) (k : ℕ). cond t k (suc k)) (same n) (a ∙ sym b)
+          ∙ sym (first-past q (q (g n)) (upto g n) (g n) (omega (arith, first-within p (upto f n))) refl)

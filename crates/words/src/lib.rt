@@ -1,5 +1,5 @@
 // Tables of u32 words that the caller lends, and the look-ups in them: the layout is in specs/View.antt.
-ghost use Prim.Native.Nat.{_+_, _*_, min};
+ghost use Prim.Native.Nat.{_+_, _*_, _<_, min};
 ghost use mathlib.Core.Path.{_≡_};
 ghost use lib.ListN.{getD, set, take, drop};
 ghost use Rattle.model.specs.Base.{same, firstAt};
@@ -7,7 +7,7 @@ ghost use Rattle.model.specs.Library.{memberPlace, classNumber, isClass};
 ghost use Rattle.words.specs.View.{nameOf, partOf, classWord, objectWord, classCount, statementCount, objectCount, memberCount, membersOf, libraryOf};
 ghost use Rattle.words.specs.Names.{nameWord, partWord};
 ghost use Rattle.words.specs.Rows.{withMember, withCount};
-ghost use Rattle.words.specs.Look.{shownCount};
+ghost use Rattle.words.specs.Look.{shownCount, firstNamed};
 
 // The word at a place; 0 past the end.
 pub fn get(tables: &[u32], place: usize) -> u32
@@ -193,34 +193,45 @@ pub fn put_member_count(tables: &mut [u32], class: u32, kind: u32, count: u32)
     );
 }
 
+// The first of so many names that is the name; their number where none is. Their words stand `step` places apart, the first
+// at `from`.
+fn first_named(
+    text: &[u8],
+    tables: &[u32],
+    from: usize,
+    step: usize,
+    count: u32,
+    name: &[u8],
+) -> u32
+    requires { ⌜ (from < 17592186044416) × (step < 256) ⌝ }
+    ensures { λ r. ⌜ r ≡ firstNamed (now (text .entry)) (now (tables .entry)) from step count (now (name .entry)) ⌝ }
+{
+    let mut place = from;
+    let mut i = 0;
+    while i < count {
+        if is_named(text, get(tables, place), name) {
+            return i;
+        }
+        place += step;
+        i += 1;
+    }
+    i
+}
+
 // The place of the first member of that name among a class's fields or methods; their number where there is none.
 pub fn find(text: &[u8], tables: &[u32], class: u32, kind: u32, name: &[u8]) -> u32
     ensures { λ r. ⌜ r ≡ memberPlace (membersOf (now (text .entry)) (now (tables .entry)) class kind) (now (name .entry)) ⌝ }
 {
     let count = member_count(tables, class, kind);
-    let mut j = 0;
-    while j < count {
-        if is_named(text, member_word(tables, class, kind, j), name) {
-            return j;
-        }
-        j += 1;
-    }
-    j
+    let from = member_place(class, kind, 8, 0);
+    first_named(text, tables, from, 1, count, name)
 }
 
 // The number of the first class of that name; the number of classes where there is none.
 pub fn class_number(text: &[u8], tables: &[u32], name: &[u8]) -> u32
     ensures { λ r. ⌜ r ≡ classNumber (libraryOf (now (text .entry)) (now (tables .entry))) (now (name .entry)) ⌝ }
 {
-    let count = class_count(tables);
-    let mut k = 0;
-    while k < count {
-        if is_named(text, class_word(tables, k, 0), name) {
-            return k;
-        }
-        k += 1;
-    }
-    k
+    first_named(text, tables, 8, 232, class_count(tables), name)
 }
 
 // There is a class of that name.
@@ -234,13 +245,5 @@ pub fn is_class(text: &[u8], tables: &[u32], name: &[u8]) -> bool
 pub fn object_number(text: &[u8], tables: &[u32], name: &[u8]) -> u32
     ensures { λ r. ⌜ r ≡ firstAt (λ o. same (o .name) (now (name .entry))) (libraryOf (now (text .entry)) (now (tables .entry)) .objects) ⌝ }
 {
-    let count = object_count(tables);
-    let mut o = 0;
-    while o < count {
-        if is_named(text, object_word(tables, o, 0), name) {
-            return o;
-        }
-        o += 1;
-    }
-    o
+    first_named(text, tables, 3720, 4, object_count(tables), name)
 }

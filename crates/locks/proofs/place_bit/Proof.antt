@@ -2,7 +2,7 @@
 use borrow.Author.Needs.{needs}
 use borrow.Author.Tests.{le-ltb}
 use mathlib.Core.Path.{sym, _∙_}
-use Rattle.rows.specs.Over.{one-shifted}
+use Rattle.undo.specs.Over.{one-shifted}
 use Rattle.locks.specs.Locking.{placeBit, place-bit}
 use Rattle.locks.proofs.place_bit.Statement.{statement}
 use Rattle.locks.proofs.place_bit.Tie as tie
