@@ -28,7 +28,7 @@ unfolding notedRow
 noted-length row k v = go (ltb k 2048) (bit (getD row (152 + k / 32) 0) (k % 32))
   where
     new : List ℕ
-    new = set (set row (152 + k / 32) (bitOr (getD row (152 + k / 32) 0) (2 ^ (k % 32)))) (216 + k) v
+    new = set (set (set row 9 1) (152 + k / 32) (bitOr (getD row (152 + k / 32) 0) (2 ^ (k % 32)))) (216 + k) v
 
     go : (a b : Bool) → length (cond a (cond b row new) row) ≡ length row
     go false b = refl

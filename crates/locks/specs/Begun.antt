@@ -6,11 +6,10 @@ use mathlib.Core.List.{List}
 use lib.ListN.{set}
 use lib.Dec.{ltb}
 use borrow.Author.Tests.{lt-ltb, le-ltb}
-use Rattle.model.specs.Word.{Name}
 use Rattle.model.specs.Library.{Member}
-use Rattle.words.specs.View.{nameOf, objectWord, objectCount}
+use Rattle.words.specs.View.{objectWord, objectCount}
 use Rattle.state.specs.Row.{objectRow}
-use Rattle.state.specs.Turn.{objectFrom, bodyIn}
+use Rattle.state.specs.Turn.{objectFrom, bodyAt}
 use Rattle.state.specs.Request.{Wanted, begunRow}
 use Rattle.turns.specs.Bodies.{Bounds}
 use Rattle.locks.specs.declared.First as Declared
@@ -28,10 +27,10 @@ saidFirst (Past o) = past o
 
 -- Where the send's message starts: as `begunRow` has it.
 unfoldable pub firstOf : List ℕ → List ℕ → Wanted → First
-unfolding objectFrom bodyIn objectWord nameOf
+unfolding objectFrom bodyAt objectWord
 firstOf text tables q =
     let o = objectFrom tables (q .kind) (q .number) 0 in
-    let b = bodyIn text tables (objectWord tables o 1) (nameOf text (q .name)) in
+    let b = bodyAt text tables (objectWord tables o 1) (q .place) (q .name) in
     cond (ltb o (objectCount tables)) (on o (b .first) (b .first + b .count)) (past o)
 
 -- The row that runs a message: its target, name and argument.
@@ -56,7 +55,7 @@ begun-is text tables q row = side (ltb o (objectCount tables))
     o = objectFrom tables (q .kind) (q .number) 0
 
     b : Member
-    b = bodyIn text tables (objectWord tables o 1) (nameOf text (q .name))
+    b = bodyAt text tables (objectWord tables o 1) (q .place) (q .name)
 
     side : (t : Bool) → cond t (objectRow o (b .first) (b .first + b .count) 0 (namedRow q row)) (pastRow o (namedRow q row)) ≡ entered q (cond t (on o (b .first) (b .first + b .count)) (past o)) row
     side true = refl
@@ -68,7 +67,7 @@ module _ (text tables : List ℕ) (q : Wanted) (o n : ℕ) (e : o ≡ objectFrom
   unfolding firstOf
   first-past h = rw (← e, ← m, le-ltb o n h)
 
-  pub first-on : o < n → (c : ℕ) → c ≡ objectWord tables o 1 → (name : Name) → name ≡ nameOf text (q .name) → (i j : ℕ) → Bounds (bodyIn text tables c name) i j
+  pub first-on : o < n → (c : ℕ) → c ≡ objectWord tables o 1 → (i j : ℕ) → Bounds (bodyAt text tables c (q .place) (q .name)) i j
       → on o i j ≡ firstOf text tables q
   unfolding firstOf
-  first-on h c k name l i j b = rw (← e, ← m, lt-ltb o n h, ← k, ← l, b .first-is, b .end-is)
+  first-on h c k i j b = rw (← e, ← m, lt-ltb o n h, ← k, b .first-is, b .end-is)

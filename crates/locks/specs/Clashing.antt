@@ -6,7 +6,7 @@ use mathlib.Core.Bool.{Bool, true, false, not, cond, _&&_}
 use mathlib.Core.List.{List}
 use native.Mathlib.Omega.{arith}
 use lib.ListN.{getD}
-use lib.Bits.{bitOr, and-zero-l}
+use lib.Bits.{bitAnd, bitOr, and-zero-l}
 use lib.Dec.{eqb, ltb}
 use borrow.Author.Tests.{ltb-true, lt-ltb, le-ltb, eq-eqb, ne-eqb}
 use Rattle.model.specs.Base.{any, upto}
@@ -33,6 +33,15 @@ domainClashes text tables q row = any (classClashes text tables q row) (upto (λ
 -- What the row holds at a word, or on class d with its objects.
 abbrev pub heldAt : List ℕ → ℕ → ℕ → ℕ
 heldAt row word d = bitOr (getD row word 0) (getD row (136 + d) 0)
+
+-- The row holds one of the methods at a word, or on class d with its objects.
+unfoldable pub holdsOne : List ℕ → ℕ → ℕ → ℕ → Bool
+holdsOne row word d methods = not (eqb (bitAnd (heldAt row word d) methods) 0)
+
+-- The methods of class d that do not commute with the one at place k.
+unfoldable pub conflictsOf : List ℕ → ℕ → ℕ → ℕ
+unfolding classWord
+conflictsOf tables d k = 4294967295 - classWord tables d (200 + k)
 
 and-false : (s t : Bool) → t ≡ false → false ≡ (s && t)
 and-false true t e = sym e
@@ -110,25 +119,21 @@ module _ (text tables : List ℕ) (q : Wanted) (d : ℕ) where
       unfolding classClashes
       clash-outside h = rw (place-passes k e h)
 
-      pub clash-inside : k < 32 → meets (heldAt row (120 + d) d) (classWord tables d (200 + k)) ≡ classClashes text tables q row d
-      unfolding classClashes classMeets commutingIn
-      clash-inside h = let l = place-locks k e h in rw (l .0, l .1)
+      pub clash-inside : k < 32 → (methods : ℕ) → methods ≡ conflictsOf tables d k → holdsOne row (120 + d) d methods ≡ classClashes text tables q row d
+      unfolding classClashes classMeets commutingIn holdsOne conflictsOf meets
+      clash-inside h methods m = let l = place-locks k e h in rw (m, l .0, l .1)
 
 -- ---- the row, by the target's kind
 
 module _ (text tables : List ℕ) (q : Wanted) (row : List ℕ) where
-  abbrev clash : ℕ → Bool
-  clash word = meets (heldAt row word (q .class)) (classWord tables (q .class) (200 + q .place))
-
-  pub meets-object : q .kind ≡ 0 → clash (56 + q .number) ≡ rowMeets text tables q row
-  unfolding rowMeets
+  pub meets-object : q .kind ≡ 0 → holdsOne row (56 + q .number) (q .class) (conflictsOf tables (q .class) (q .place)) ≡ rowMeets text tables q row
+  unfolding rowMeets holdsOne conflictsOf meets
   meets-object h = rw (eq-eqb (q .kind) 0 h)
 
-  module _ (h : q .kind ≡ 0 → ⊥) where
-    pub meets-class : q .kind ≡ 1 → clash (120 + q .class) ≡ rowMeets text tables q row
-    unfolding rowMeets classMeets
-    meets-class k = rw (ne-eqb (q .kind) 0 h, eq-eqb (q .kind) 1 k)
+  pub meets-class : q .kind ≡ 1 → holdsOne row (120 + q .class) (q .class) (conflictsOf tables (q .class) (q .place)) ≡ rowMeets text tables q row
+  unfolding rowMeets classMeets holdsOne conflictsOf meets
+  meets-class h = rw (ne-eqb (q .kind) 0 (λ x. omega arith), eq-eqb (q .kind) 1 h)
 
-    pub meets-domain : (q .kind ≡ 1 → ⊥) → domainClashes text tables q row ≡ rowMeets text tables q row
-    unfolding rowMeets domainClashes classClashes
-    meets-domain k = rw (ne-eqb (q .kind) 0 h, ne-eqb (q .kind) 1 k)
+  pub meets-domain : 2 ≤ q .kind → domainClashes text tables q row ≡ rowMeets text tables q row
+  unfolding rowMeets domainClashes classClashes
+  meets-domain h = rw (ne-eqb (q .kind) 0 (λ x. omega arith), ne-eqb (q .kind) 1 (λ x. omega arith))

@@ -4,10 +4,9 @@ ghost use Prim.Native.Nat.{_+_};
 ghost use mathlib.Core.Path.{_≡_};
 ghost use lib.ListN.{getD, set};
 ghost use lib.Bits.{bitOr};
-ghost use Rattle.words.specs.View.{classWord};
-ghost use Rattle.state.specs.Request.{meets, inDomain, rowMeets};
+ghost use Rattle.state.specs.Request.{inDomain};
 ghost use Rattle.locks.specs.Asked.{asked};
-ghost use Rattle.locks.specs.Clashing.{domainPlace, heldAt, classClashes, domainClashes};
+ghost use Rattle.locks.specs.Clashing.{domainPlace, heldAt, holdsOne, conflictsOf, classClashes, domainClashes};
 ghost use Rattle.locks.specs.Locking.{placeBit, domainBit, lockedTarget};
 ghost use Rattle.locks.specs.Begun.{saidFirst, firstOf, namedRow, pastRow, entered};
 
@@ -31,18 +30,24 @@ pub enum First {
 }
 
 // The methods that the row holds at a word, or on the class with its objects.
-fn held(row: &[u32], word: usize, class: u32) -> u32
+pub fn held(row: &[u32], word: usize, class: u32) -> u32
     ensures { λ r. ⌜ r ≡ heldAt (now (row .entry)) word class ⌝ }
 {
     words::get(row, word) | words::get(row, 136 + class as usize)
 }
 
-// One of those methods does not commute with the class's method at a place.
-fn held_meets(tables: &[u32], row: &[u32], word: usize, class: u32, place: u32) -> bool
-    ensures { λ r. ⌜ r ≡ meets (heldAt (now (row .entry)) word class) (classWord (now (tables .entry)) class (200 + place)) ⌝ }
+// The row holds one of these methods at a word, or on the class with its objects.
+pub fn holds(row: &[u32], word: usize, class: u32, methods: u32) -> bool
+    ensures { λ r. ⌜ r ≡ holdsOne (now (row .entry)) word class methods ⌝ }
 {
-    let commuting = words::get(tables, 8 + (class as usize * 232 + (200 + place as usize)));
-    held(row, word, class) & !commuting != 0
+    held(row, word, class) & methods != 0
+}
+
+// The methods of a class that do not commute with the one at a place.
+pub fn conflicts(tables: &[u32], class: u32, place: u32) -> u32
+    ensures { λ r. ⌜ r ≡ conflictsOf (now (tables .entry)) class place ⌝ }
+{
+    !words::get(tables, 8 + (class as usize * 232 + (200 + place as usize)))
 }
 
 // The class is in the send's domain; no mask has a class past its 32.
@@ -84,11 +89,11 @@ fn class_clashes(text: &[u8], tables: &[u32], wanted: Wanted, row: &[u32], class
     if 32 <= place {
         return false;
     }
-    held_meets(tables, row, word, class, place)
+    holds(row, word, class, conflicts(tables, class, place))
 }
 
-// The row holds such a lock on some class.
-fn domain_clashes(text: &[u8], tables: &[u32], wanted: Wanted, row: &[u32]) -> bool
+// The row holds a lock on some class that is in the way of a send to a domain.
+pub fn domain_clashes(text: &[u8], tables: &[u32], wanted: Wanted, row: &[u32]) -> bool
     ensures { λ r. ⌜ r ≡ domainClashes (now (text .entry)) (now (tables .entry)) (asked wanted) (now (row .entry)) ⌝ }
 {
     let count = words::class_count(tables);
@@ -100,21 +105,6 @@ fn domain_clashes(text: &[u8], tables: &[u32], wanted: Wanted, row: &[u32]) -> b
         class += 1;
     }
     false
-}
-
-// The row holds a lock that is in the send's way.
-pub fn row_meets(text: &[u8], tables: &[u32], wanted: Wanted, row: &[u32]) -> bool
-    ensures { λ r. ⌜ r ≡ rowMeets (now (text .entry)) (now (tables .entry)) (asked wanted) (now (row .entry)) ⌝ }
-{
-    let class = wanted.class;
-    let place = wanted.place;
-    if wanted.kind == 0 {
-        return held_meets(tables, row, 56 + wanted.number as usize, class, place);
-    }
-    if wanted.kind == 1 {
-        return held_meets(tables, row, 120 + class as usize, class, place);
-    }
-    domain_clashes(text, tables, wanted, row)
 }
 
 // The mask of the method at a place; none past the 32 of a mask.
@@ -162,8 +152,7 @@ pub fn first_object(text: &[u8], tables: &[u32], wanted: Wanted) -> First
         return First::Past(object);
     }
     let class = words::object_word(tables, object, 1);
-    let name = words::name_of(text, wanted.name);
-    let body = turns::body::body_in(text, tables, class, name);
+    let body = turns::body::body_at(text, tables, class, wanted.place, wanted.name);
     First::On(object, body.first, body.end)
 }
 

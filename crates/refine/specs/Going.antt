@@ -63,7 +63,7 @@ onwardRun r below = record { message = r .message; objects = r .objects; activat
 record Onward (tables : List ℕ) (p : Program) (row row′ : List ℕ) (d : ℕ) (stack : List Activation) : Type 0 where
   long : length row′ ≡ 2264
   phase : getD row′ 0 0 ≡ getD row 0 0
-  head : Alike 3 9 row row′
+  head : Alike 3 10 row row′
   tail : Alike 56 2264 row row′
   depth : getD row′ 1 0 ≡ d
   some : 0 < d
@@ -95,7 +95,7 @@ module _ (text tables : List ℕ) (p : Program) (row values : List ℕ) (size : 
           domain = λ h. omega (arith, w6, runs .domain (omega (arith, w5)));
         };
         notes = note-same row row′ (λ i g h. o .tail i (omega arith) (omega arith));
-        clean = clean-alike row row′ (λ i g h. o .tail i (omega arith) (omega arith));
+        clean = clean-alike row row′ (o .head 9 (omega arith) (omega arith)) (λ i g h. o .tail i (omega arith) (omega arith));
         locks = λ i g h. o .tail i g (omega arith);
       })
     where

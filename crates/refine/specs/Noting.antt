@@ -48,8 +48,11 @@ module _ (row : List ℕ) (size : length row ≡ 2264) (k v : ℕ) (few : k < 20
   abbrev marks : ℕ
   marks = getD row markAt 0
 
+  abbrev flagged : List ℕ
+  flagged = set row 9 1
+
   abbrev one : List ℕ
-  one = set row markAt (bitOr marks (2 ^ (k % 32)))
+  one = set flagged markAt (bitOr marks (2 ^ (k % 32)))
 
   -- The row with the note made.
   abbrev made : List ℕ
@@ -57,16 +60,20 @@ module _ (row : List ℕ) (size : length row ≡ 2264) (k v : ℕ) (few : k < 20
 
   made-mark : (d : ℕ) → bit (getD made markAt 0) d ≡ (bit marks d || eqb (k % 32) d)
   made-mark d =
-      ap (λ (m : ℕ). bit m d) (else-word one (216 + k) v markAt (omega arith) ∙ new-word row markAt (bitOr marks (2 ^ (k % 32))) (omega arith))
+      ap (λ (m : ℕ). bit m d) (else-word one (216 + k) v markAt (omega arith) ∙ new-word flagged markAt (bitOr marks (2 ^ (k % 32))) (omega (arith, length-set row 9 1)))
       ∙ bit-or marks (2 ^ (k % 32)) d ∙ ap (λ (b : Bool). bit marks d || b) (bit-one (k % 32) d (omega arith))
 
-  made-other : (i : ℕ) → (i ≢ markAt) × (i ≢ 216 + k) → getD made i 0 ≡ getD row i 0
-  made-other i n = else-word one (216 + k) v i (n .1) ∙ else-word row markAt (bitOr marks (2 ^ (k % 32))) i (n .0)
+  made-other : (i : ℕ) → (i ≢ markAt) × (i ≢ 216 + k) × (i ≢ 9) → getD made i 0 ≡ getD row i 0
+  made-other i n = else-word one (216 + k) v i (n .1) ∙ else-word flagged markAt (bitOr marks (2 ^ (k % 32))) i (n .0) ∙ else-word row 9 1 i (n .2)
+
+  made-flag : getD made 9 0 ≡ 1
+  made-flag =
+      else-word one (216 + k) v 9 (omega arith) ∙ else-word flagged markAt (bitOr marks (2 ^ (k % 32))) 9 (omega arith) ∙ new-word row 9 1 (omega arith)
 
   made-notes : bit marks (k % 32) ≡ false → (j : ℕ) → noteAt made j ≡ put (noteAt row) k (some v) j
   made-notes clear = at-or (λ (j : ℕ). noteAt made j ≡ put (noteAt row) k (some v) j) k
       (note-is made k few true (made-mark (k % 32) ∙ ap (λ (b : Bool). bit marks (k % 32) || b) (eqb-same (k % 32)) ∙ or-true (bit marks (k % 32)))
-      ∙ ap {B = Option ℕ} some (new-word one (216 + k) v (omega (arith, length-set row markAt (bitOr marks (2 ^ (k % 32))))))
+      ∙ ap {B = Option ℕ} some (new-word one (216 + k) v (omega (arith, length-set flagged markAt (bitOr marks (2 ^ (k % 32))), length-set row 9 1)))
       ∙ sym (put-same (noteAt row) k (some v)))
       (λ j ne. go j ne (ℕ-discrete (j / 32) (k / 32)) ∙ sym (put-other (noteAt row) k (some v) j ne))
     where
@@ -75,17 +82,18 @@ module _ (row : List ℕ) (size : length row ≡ 2264) (k v : ℕ) (few : k < 20
           made-mark (j % 32) ∙ ap (λ (b : Bool). bit marks (j % 32) || b) (ne-eqb (k % 32) (j % 32) (λ z. ne (omega arith))) ∙ or-false (bit marks (j % 32))
 
       saved : (j : ℕ) → (j ≡ k → ⊥) → getD made (216 + j) 0 ≡ getD row (216 + j) 0
-      saved j ne = made-other (216 + j) (omega arith, λ e. ne (omega arith))
+      saved j ne = made-other (216 + j) (omega arith, λ e. ne (omega arith), omega arith)
 
       go : (j : ℕ) → (j ≡ k → ⊥) → Dec (j / 32 ≡ k / 32) → noteAt made j ≡ noteAt row j
       go j ne (yes e) = note-alike row made j (λ l. subst (λ (i : ℕ). bit (getD made (152 + i) 0) (j % 32) ≡ bit (getD row (152 + i) 0) (j % 32))
           (sym e) (bits j ne e)) (saved j ne)
-      go j ne (no d) = note-alike row made j (λ l. ap (λ (m : ℕ). bit m (j % 32)) (made-other (152 + j / 32) (λ e. d (omega arith), omega arith))) (saved j ne)
+      go j ne (no d) = note-alike row made j (λ l. ap (λ (m : ℕ). bit m (j % 32)) (made-other (152 + j / 32) (λ e. d (omega arith), omega arith, omega arith))) (saved j ne)
 
   -- Its mark stands; the other marks and notes are as they were.
-  made-clean : Clean row → Clean made
-  made-clean clean j h e =
-      made-other (216 + j) (omega arith, other) ∙ clean j h (go (ℕ-discrete (j / 32) (k / 32)))
+  made-unmade : ((j : ℕ) → j < 2048 → bit (getD row (152 + j / 32) 0) (j % 32) ≡ false → getD row (216 + j) 0 ≡ 0)
+      → (j : ℕ) → j < 2048 → bit (getD made (152 + j / 32) 0) (j % 32) ≡ false → getD made (216 + j) 0 ≡ 0
+  made-unmade clean j h e =
+      made-other (216 + j) (omega arith, other, omega arith) ∙ clean j h (go (ℕ-discrete (j / 32) (k / 32)))
     where
       here : j ≡ k → bit (getD made (152 + j / 32) 0) (j % 32) ≡ true
       here q =
@@ -103,12 +111,15 @@ module _ (row : List ℕ) (size : length row ≡ 2264) (k v : ℕ) (few : k < 20
       go (yes q) = or-left (bit (getD row (152 + j / 32) 0) (j % 32)) (eqb (k % 32) (j % 32))
           (sym (subst (λ (i : ℕ). bit (getD made (152 + i) 0) (j % 32) ≡ (bit (getD row (152 + i) 0) (j % 32) || eqb (k % 32) (j % 32))) (sym q)
           (made-mark (j % 32))) ∙ e)
-      go (no d) = ap (λ (m : ℕ). bit m (j % 32)) (sym (made-other (152 + j / 32) (λ q. d (omega arith), omega arith))) ∙ e
+      go (no d) = ap (λ (m : ℕ). bit m (j % 32)) (sym (made-other (152 + j / 32) (λ q. d (omega arith), omega arith, omega arith))) ∙ e
+
+  made-clean : Clean row → Clean made
+  made-clean clean = record { notes = made-unmade (clean .notes); marks = λ e. absurd (omega (arith, made-flag)) }
 
   -- The notes of the row that has noted a value, and what else it has kept.
   pub record Noted (row′ : List ℕ) : Type 0 where
     pub long : length row′ ≡ 2264
-    pub alike : Alike 0 152 row row′
+    pub alike : (i : ℕ) → i < 152 → i ≢ 9 → getD row′ i 0 ≡ getD row i 0
     pub notes : (j : ℕ) → noteAt row′ j ≡ put (noteAt row) k (firstValue (noteAt row k) v) j
     pub clean : Clean row → Clean row′
 
@@ -125,15 +136,15 @@ module _ (row : List ℕ) (size : length row ≡ 2264) (k v : ℕ) (few : k < 20
           let n : noteAt row k ≡ some (getD row (216 + k) 0) = note-is row k few true e in
           record {
             long = size;
-            alike = λ i g h. refl;
+            alike = λ i h n. refl;
             notes = λ j. sym (ap (λ (u : Undo). u j) (put-id (noteAt row) k)) ∙ ap (λ (y : Option ℕ). put (noteAt row) k y j) n
                 ∙ first (some (getD row (216 + k) 0)) n j;
             clean = λ c. c;
           }
       go false e =
           record {
-            long = length-set one (216 + k) v ∙ length-set row markAt (bitOr marks (2 ^ (k % 32))) ∙ size;
-            alike = λ i g h. made-other i (omega arith);
+            long = length-set one (216 + k) v ∙ length-set flagged markAt (bitOr marks (2 ^ (k % 32))) ∙ length-set row 9 1 ∙ size;
+            alike = λ i h n. made-other i (omega arith, omega arith, n);
             notes = λ j. made-notes e j ∙ first none (note-is row k few false e) j;
             clean = made-clean;
           }
@@ -150,26 +161,26 @@ assign-goes text tables p row values size runs k deep early h i v few =
     let mid = notedRow row i (getD values i 0) in
     let n = noted-row row size i (getD values i 0) few in
     let le = runs .depth in
-    let word : (j : ℕ) → j < 152 → getD mid j 0 ≡ getD row j 0 = λ j g. n .alike j (omega arith) g in
-    let runs′ = running-same text p tables row mid runs (λ j g q. word j (omega arith)) in
-    let same = run-same text p tables row mid runs (λ j g q. word j (omega arith)) in
-    let w1 = word 1 (omega arith) in
-    let w2 = word 2 (omega arith) in
-    let w16 = word (16 + k * 5 + 0) (omega arith) in
-    let w17 = word (16 + k * 5 + 1) (omega arith) in
+    let word : (j : ℕ) → j < 152 → j ≢ 9 → getD mid j 0 ≡ getD row j 0 = λ j g. n .alike j g in
+    let runs′ = running-same text p tables row mid runs (λ j g q. word j (omega arith) (omega arith)) (λ j g q. word j (omega arith) (omega arith)) in
+    let same = run-same text p tables row mid runs (λ j g q. word j (omega arith) (omega arith)) (λ j g q. word j (omega arith) (omega arith)) in
+    let w1 = word 1 (omega arith) (omega arith) in
+    let w2 = word 2 (omega arith) (omega arith) in
+    let w16 = word (16 + k * 5 + 0) (omega arith) (omega arith) in
+    let w17 = word (16 + k * 5 + 1) (omega arith) (omega arith) in
     let g = skip-goes text tables p mid values (n .long) runs′ k (w1 ∙ deep) (omega arith) (omega arith) in
     record {
       said = refl;
       fields = refl;
       size = g .size;
-      phase = g .phase ∙ word 0 (omega arith);
+      phase = g .phase ∙ word 0 (omega arith) (omega arith);
       run = ap₂ onwardRun (sym same)
           (ap₂ (λ (x : Activation) (xs : List Activation). x ∷ xs)
-          (ap₂ withRest (sym (activation-same l row mid k (λ j a b. word j (omega arith)))) (ap₂ (between l) (ap suc (sym w16)) (sym w17)))
-          (sym (stack-same l row mid k (λ j a b. word j (omega arith)))))
+          (ap₂ withRest (sym (activation-same l row mid k (λ j a b. word j (omega arith) (omega arith)))) (ap₂ (between l) (ap suc (sym w16)) (sym w17)))
+          (sym (stack-same l row mid k (λ j a b. word j (omega arith) (omega arith)))))
           ∙ g .run;
       runs = g .runs;
       notes = λ j. g .notes j ∙ n .notes j;
       clean = λ c. g .clean (n .clean c);
-      locks = λ j a b. g .locks j a b ∙ word j b;
+      locks = λ j a b. g .locks j a b ∙ word j b (omega arith);
     }

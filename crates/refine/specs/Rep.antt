@@ -168,9 +168,10 @@ abbrev pub NowRep : List ℕ → List ℕ → Program → List ℕ → Option Ru
 NowRep text tables p row none = getD row 0 0 ≡ 1
 NowRep text tables p row (some r) = (getD row 0 0 ≡ 2) × (r ≡ runOf text p row) × Running tables p row
 
--- A note that the row has not made is 0.
-abbrev pub Clean : List ℕ → Type 0
-Clean row = (k : ℕ) → k < 2048 → bit (getD row (152 + k / 32) 0) (k % 32) ≡ false → getD row (216 + k) 0 ≡ 0
+-- A note that the row has not made is 0, and so are its marks where no value was set.
+pub record Clean (row : List ℕ) : Type 0 where
+  pub notes : (k : ℕ) → k < 2048 → bit (getD row (152 + k / 32) 0) (k % 32) ≡ false → getD row (216 + k) 0 ≡ 0
+  pub marks : getD row 9 0 ≡ 0 → (i : ℕ) → 152 ≤ i → i < 216 → getD row i 0 ≡ 0
 
 pub record OpenRep (text tables : List ℕ) (p : Program) (row : List ℕ) (t : Transaction (service p)) : Type 0 where
   pub undo : (k : ℕ) → noteAt row k ≡ t .undo k

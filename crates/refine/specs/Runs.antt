@@ -105,34 +105,31 @@ module _ (text : List ℕ) (p : Program) where
   run-is row m os below s v a b c d e = λ i. record { message = a i; objects = b i; activations = c i; steps = d i; sum = e i }
 
   -- Rows that differ in their notes and locks only.
-  module _ (tables row row′ : List ℕ) (runs : Running tables p row) (alike : Alike 1 56 row row′) where
-    at : (i : ℕ) → 1 ≤ i → i < 56 → getD row′ i 0 ≡ getD row i 0
-    at = alike
-
+  module _ (tables row row′ : List ℕ) (runs : Running tables p row) (alike : Alike 1 9 row row′) (stack : Alike 16 56 row row′) where
     pub run-same : runOf text p row′ ≡ runOf text p row
     unfolding runOf
     run-same =
         let m = message-same text row row′ (λ i g h. alike i (omega arith) (omega arith)) in
-        let d = at 1 (omega arith) (omega arith) in
+        let d = alike 1 (omega arith) (omega arith) in
         let e = runs .depth in
         run-is row′ (messageOf text row) (objectsFrom p (messageOf text row .target) (getD row 4 0)) (stackOf (p .library) row (getD row 1 0))
         (getD row 2 0) (getD row 3 0) m
-        (ap₂ (objectsFrom p) (ap (λ (z : Message). z .target) m) (at 4 (omega arith) (omega arith)))
-        (ap (stackOf (p .library) row′) d ∙ stack-same (p .library) row row′ (getD row 1 0) (λ i g h. alike i (omega arith) (omega arith)))
-        (at 2 (omega arith) (omega arith)) (at 3 (omega arith) (omega arith))
+        (ap₂ (objectsFrom p) (ap (λ (z : Message). z .target) m) (alike 4 (omega arith) (omega arith)))
+        (ap (stackOf (p .library) row′) d ∙ stack-same (p .library) row row′ (getD row 1 0) (λ i g h. stack i g (omega arith)))
+        (alike 2 (omega arith) (omega arith)) (alike 3 (omega arith) (omega arith))
 
     pub running-same : Running tables p row′
     unfolding act
     running-same =
-        let w1 = at 1 (omega arith) (omega arith) in
-        let w4 = at 4 (omega arith) (omega arith) in
-        let w5 = at 5 (omega arith) (omega arith) in
-        let w6 = at 6 (omega arith) (omega arith) in
+        let w1 = alike 1 (omega arith) (omega arith) in
+        let w4 = alike 4 (omega arith) (omega arith) in
+        let w5 = alike 5 (omega arith) (omega arith) in
+        let w6 = alike 6 (omega arith) (omega arith) in
         let deep = runs .depth in
         record {
           depth = omega arith;
           active = λ h. let a = runs .active (omega arith) in omega arith;
           visiting = λ h. ap₂ (λ (t : Target) (o : ℕ). Model.inTarget p t o) (ap₂ targetBy w5 w6) w4 ∙ runs .visiting (omega arith);
-          ends = λ k h. let e = runs .ends k (omega arith) in let q = at (16 + k * 5 + 1) (omega arith) (omega arith) in omega arith;
+          ends = λ k h. let e = runs .ends k (omega arith) in let q = stack (16 + k * 5 + 1) (omega arith) (omega arith) in omega arith;
           domain = λ h. let d = runs .domain (omega arith) in omega arith;
         }

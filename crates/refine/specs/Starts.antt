@@ -9,16 +9,17 @@ use mathlib.Core.List.{List, [], _∷_}
 use lib.ListN.{length, getD, set, length-set}
 use lib.Dec.{ltb}
 use borrow.Author.Tests.{lt-ltb, le-ltb}
+use Rattle.model.specs.Library.{Member}
 use Rattle.model.specs.Vector.{Program}
 use Rattle.model.specs.Message.{Target, Message, Run, visit}
 use Rattle.model.specs.Message as Model
 use Rattle.words.specs.View.{nameOf, objectWord, classCount, objectCount, memberCount}
 use Rattle.state.specs.Row.{objectRow}
-use Rattle.state.specs.Turn.{objectFrom, bodyIn}
+use Rattle.state.specs.Turn.{objectFrom, bodyIn, bodyAt}
 use Rattle.state.specs.Request.{Wanted, begunRow}
 use Rattle.state.specs.Calls.{wanted}
 use Rattle.refine.specs.Rep.{Fits, Running, targetBy, messageOf, objectsFrom, runOf}
-use Rattle.refine.specs.Tables.{method-name}
+use Rattle.refine.specs.Tables.{method-name, body-at}
 use Rattle.refine.specs.Objects.{visited-is, next-some, next-none}
 use Rattle.refine.specs.Runs.{Alike}
 use Rattle.refine.specs.Stores.{else-word, new-word}
@@ -45,6 +46,7 @@ pub record Starts (text tables : List ℕ) (p : Program) (row row′ : List ℕ)
   pub phase : getD row′ 0 0 ≡ 2
   pub run : r ≡ runOf text p row′
   pub runs : Running tables p row′
+  pub noted : getD row′ 9 0 ≡ getD row 9 0
   pub tail : Alike 56 2264 row row′
 
 module _ (text tables : List ℕ) (p : Program) (fits : Fits text tables p) (c k a : ℕ) (h : c < classCount tables) (has : k < memberCount tables c 1)
@@ -99,8 +101,8 @@ module _ (text tables : List ℕ) (p : Program) (fits : Fits text tables p) (c k
   word8 : getD named 8 0 ≡ a
   word8 = new-word r7 8 a (omega (arith, long7))
 
-  named-tail : Alike 56 2264 row named
-  named-tail i g l =
+  named-other : (i : ℕ) → 9 ≤ i → getD named i 0 ≡ getD row i 0
+  named-other i g =
       else-word r7 8 a i (omega arith) ∙ else-word r6 7 (q .name) i (omega arith) ∙ else-word r5 6 n i (omega arith)
       ∙ else-word r0 5 kind i (omega arith) ∙ else-word row 0 2 i (omega arith)
 
@@ -125,7 +127,7 @@ module _ (text tables : List ℕ) (p : Program) (fits : Fits text tables p) (c k
   -- The row as the words write it.
   abbrev written : Bool → List ℕ
   written there′ =
-      let b = bodyIn text tables (objectWord tables o 1) (nameOf text (q .name)) in
+      let b = bodyAt text tables (objectWord tables o 1) k (q .name) in
       cond there′ (objectRow o (b .first) (b .first + b .count) 0 named) (headRow named o 0 0)
 
   written-is : begunRow text tables q row ≡ written (ltb o (objectCount tables))
@@ -142,7 +144,8 @@ module _ (text tables : List ℕ) (p : Program) (fits : Fits text tables p) (c k
         phase = other 0 (omega arith) ∙ word0;
         run = begun-is ∙ sym (visit-run text tables p fits named named-length there o 0 l aimed);
         runs = visit-running text tables p fits named named-length there o 0 l aimed;
-        tail = λ i g e. other i (omega arith) ∙ named-tail i g e;
+        noted = other 9 (omega arith) ∙ named-other 9 (omega arith);
+        tail = λ i g e. other i (omega arith) ∙ named-other i (omega arith);
       })
     where
       next : (Model.inTarget p (targetBy kind n) o ≡ true) × (objectsFrom p (targetBy kind n) 0 ≡ o ∷ objectsFrom p (targetBy kind n) (suc o))
@@ -160,6 +163,7 @@ module _ (text tables : List ℕ) (p : Program) (fits : Fits text tables p) (c k
       is : begunRow text tables q row ≡ row′
       is =
           written-is ∙ ap written (lt-ltb o (objectCount tables) l)
+          ∙ ap (λ (b : Member). objectRow o (b .first) (b .first + b .count) 0 named) (body-at text tables p fits (objectWord tables o 1) (fits .known o l) k (q .name))
           ∙ ap (λ (w : ℕ). let b = bodyIn text tables (objectWord tables o 1) (nameOf text w) in objectRow o (b .first) (b .first + b .count) 0 named) (sym word7)
 
       begun-is : Model.begun p message ≡ visit p (messageOf text named) (o ∷ objectsFrom p (messageOf text named .target) (suc o)) 0
@@ -176,7 +180,8 @@ module _ (text tables : List ℕ) (p : Program) (fits : Fits text tables p) (c k
         phase = head-other named named-length o 0 0 0 (omega arith) ∙ word0;
         run = begun-is ∙ sym (empty-run text tables p fits named named-length there o 0 l);
         runs = empty-running text tables p fits named named-length there o 0 l;
-        tail = λ i g e. head-other named named-length o 0 0 i (omega arith) ∙ named-tail i g e;
+        noted = head-other named named-length o 0 0 9 (omega arith) ∙ named-other 9 (omega arith);
+        tail = λ i g e. head-other named named-length o 0 0 i (omega arith) ∙ named-other i (omega arith);
       })
     where
       begun-is : Model.begun p message ≡ visit p (messageOf text named) [] 0

@@ -6,11 +6,11 @@ use mathlib.Core.Path.{_≡_, refl, sym, ap, ap₂, subst, _∙_, fun-ext}
 use mathlib.Core.Bool.{Bool, true, false, cond, _&&_}
 use mathlib.Core.Option.{none, some}
 use mathlib.Core.List.{List, [], map}
-use lib.ListN.{length, getD, take, drop, length-take, List·getD-eq-default}
+use lib.ListN.{length, getD, take, drop, length-take, List·getD-map, List·getD-eq-default}
 use lib.Seq.{getD-take, getD-drop}
 use lib.Dec.{eqb, ltb}
 use lib.Pow.{field}
-use borrow.Author.Tests.{lt-ltb, ltb-true, ltb-false, eqb-false}
+use borrow.Author.Tests.{lt-ltb, ltb-true, ltb-false, eqb-true, eqb-false}
 use Rattle.model.specs.Word.{Name}
 use Rattle.model.specs.Library.{Library, Member, Object, noMember, classAt, member, memberPlace, byFirstParent, statementsOf, bodyOf, methodNames}
 use Rattle.model.specs.Vector.{Program}
@@ -20,9 +20,9 @@ use Rattle.words.specs.View.{nameOf, classWord, objectWord, classCount, objectC
 use Rattle.words.specs.View as View
 use Rattle.words.specs.Upto.{getD-upto}
 use Rattle.words.specs.Look.{class-count, statement-count, object-count, member-count, class-at}
-use Rattle.theory.specs.ListLaws.{map-at}
+use Rattle.theory.specs.ListLaws.{both-left, both-right, map-at}
 use Rattle.theory.specs.Lookup.{past-classes}
-use Rattle.state.specs.Turn.{inTarget, bodyIn, valuesAt, fieldIn}
+use Rattle.state.specs.Turn.{inTarget, bodyIn, writesAt, bodyAt, valuesAt, fieldIn}
 use Rattle.refine.specs.Rep.{Fits, between, targetBy}
 
 -- The word of a name without the class that it is from.
@@ -142,6 +142,60 @@ module _ (text tables : List ℕ) (p : Program) (fits : Fits text tables p) wher
       go (yes h) (yes k) = fits .bodies d j h (omega (arith, method-total d h))
       go (yes h) (no k) = none-there (List·getD-eq-default ms noMember (omega arith))
       go (no h) k = none-there (ap (λ x. getD (x .methods) j noMember) (past-classes (p .library) d (omega (arith, class-total))))
+
+  -- Class c writes the method at its place k itself: it is the one of that name, since a class's names are all different.
+  module _ (c : ℕ) (h : c < classCount tables) (k w : ℕ) where
+    abbrev x : ℕ
+    x = classWord tables c (72 + k)
+
+    abbrev m : Name
+    m = nameOf text w
+
+    abbrev ms : List Member
+    ms = classAt (p .library) c .methods
+
+    module _ (t : writesAt tables c k w ≡ true) where
+      there : k < memberCount tables c 1
+      unfolding writesAt
+      there = ltb-true k (memberCount tables c 1) (both-left (ltb k (memberCount tables c 1)) (eqb (x / 1048576) c && eqb (x % 1048576) w) t)
+
+      both : eqb (x / 1048576) c && eqb (x % 1048576) w ≡ true
+      unfolding writesAt
+      both = both-right (ltb k (memberCount tables c 1)) (eqb (x / 1048576) c && eqb (x % 1048576) w) t
+
+      found-at : memberPlace ms m ≡ k
+      found-at =
+          let name-is : x % 1048576 ≡ w = eqb-true (x % 1048576) w (both-right (eqb (x / 1048576) c) (eqb (x % 1048576) w) both) in
+          ap (memberPlace ms) (sym (method-name c h k there ∙ ap (nameOf text) name-is))
+          ∙ fits .distinct c h k (omega (arith, method-total c h, there))
+
+      member-is : (d : Member) → getD ms (memberPlace ms m) d ≡ memberAt text tables c 1 k
+      unfolding membersOf
+      member-is d =
+          ap (λ (i : ℕ). getD ms i d) found-at ∙ ap (λ (l : List Member). getD l k d) (methods-are c h)
+          ∙ getD-upto (memberAt text tables c 1) (memberCount tables c 1) k d there
+
+      writer-is : byFirstParent (p .library) c m ≡ c
+      unfolding byFirstParent memberAt
+      writer-is =
+          let d : Member = record { origin = length (p .library .classes); name = []; first = 0; count = 0 } in
+          let at : 8 + (64 + k) ≡ 72 + k = omega arith in
+          List·getD-map (λ (b : Member). b .origin) ms (memberPlace ms m) d ∙ ap (λ (b : Member). b .origin) (member-is d)
+          ∙ ap (λ (i : ℕ). classWord tables c i / 1048576) at
+          ∙ eqb-true (x / 1048576) c (both-left (eqb (x / 1048576) c) (eqb (x % 1048576) w) both)
+
+      body-there : bodyIn text tables c m ≡ memberAt text tables c 1 k
+      unfolding member
+      body-there = body-member c m ∙ ap (λ (d : ℕ). member (classAt (p .library) d .methods) m) writer-is ∙ member-is noMember
+
+    -- A method's body by its place is the one by its name.
+    pub body-at : bodyAt text tables c k w ≡ bodyIn text tables c m
+    unfolding bodyAt
+    body-at = go (writesAt tables c k w) refl
+      where
+        go : (t : Bool) → writesAt tables c k w ≡ t → cond t (memberAt text tables c 1 k) (bodyIn text tables c m) ≡ bodyIn text tables c m
+        go true t = sym (body-there t)
+        go false t = refl
 
   -- A body ends within the statements.
   pub body-end : (c : ℕ) (m : Name) → bodyIn text tables c m .first + bodyIn text tables c m .count ≤ statementCount tables

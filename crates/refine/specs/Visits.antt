@@ -192,6 +192,6 @@ module _ (text tables : List ℕ) (p : Program) (fits : Fits text tables p) (row
           run = sym visit-run;
           runs = visit-running;
           notes = note-same row on (λ i g h. visit-other i (omega arith));
-          clean = clean-alike row on (λ i g h. visit-other i (omega arith));
+          clean = clean-alike row on (visit-other 9 (omega arith)) (λ i g h. visit-other i (omega arith));
           locks = λ i g h. visit-other i (omega arith);
         }

@@ -1,27 +1,32 @@
 -- A send, test by test, with names for what the code has read by then; its locks over the state, class by class.
-use Prim.Native.Nat.{ℕ, zero, suc, _+_, _%_, _^_, _≤_, _<_}
+use Prim.Native.Nat.{ℕ, zero, suc, _+_, _-_, _*_, _%_, _^_, _≤_, _<_}
 use native.Mathlib.Omega.{arith}
 use native.Mathlib.Numerals.{add-one}
-use mathlib.Core.Path.{_≡_, refl, sym, ap, ap₂, _∙_}
-use mathlib.Core.Bool.{Bool, true, false, cond}
+use mathlib.Core.Path.{_≡_, refl, sym, ap, ap₂, subst, _∙_, fun-ext}
+use mathlib.Core.Bool.{Bool, true, false, not, cond, _&&_, _||_, true≢false}
 use mathlib.Core.Option.{none, some}
 use mathlib.Core.List.{List, [], _∷_, _++_}
 use lib.ListN.{length, getD, set, length-set}
-use lib.Bits.{bitOr}
-use lib.Dec.{eqb, ltb}
+use lib.Bits.{bitAnd, bitOr}
+use lib.Dec.{eqb, leb, ltb}
 use lib.Count.{trailingZeros}
-use borrow.Author.Tests.{eq-eqb, ne-eqb, eqb-false, lt-leb, le-leb, lt-ltb, le-ltb}
-use Rattle.model.specs.Base.{least, fold, upto}
+use borrow.Author.Tests.{eqb-true, eq-eqb, ne-eqb, eqb-false, leb-false, lt-leb, le-leb, lt-ltb, le-ltb}
+use Rattle.model.specs.Base.{digit, least, fold, upto}
 use Rattle.model.specs.Machine.{object, class, domain, to}
-use Rattle.words.specs.View.{classWord, objectWord, classCount, objectCount, memberCount}
+use Rattle.words.specs.View.{classWord, objectWord, classCount, objectCount, memberCount, memberAt}
 use Rattle.state.specs.Row.{objectRow, newAct, withAct}
-use Rattle.state.specs.Request.{Wanted, rowMeets, domainLock, locked, begunRow, concerns, withLock, placeIn}
+use Rattle.state.specs.Turn.{inTarget, objectFrom, writesAt}
+use Rattle.state.specs.Request.{Wanted, meets, rowMeets, domainLock, locked, begunRow, concerns, withLock, placeIn}
 use Rattle.state.specs.Calls.{After, tablesOf, rowOf, withRow, refused, wanted, inTheWay, grantedOr, sentTo, sentBy}
+use Rattle.refine.specs.Bits.{meets-or}
 use Rattle.refine.specs.State.{with-same, with-tables}
+use Rattle.locks.specs.Clashing.{heldAt, holdsOne, conflictsOf, domainClashes, meets-object, meets-class, meets-domain}
 use Rattle.locks.specs.Locking.{domainBit, lockedTarget, domain-lock, locked-object, locked-class}
-use Rattle.locks.specs.Begun.{First, on, past, firstOf, namedRow, pastRow, entered, begun-is}
+use Rattle.turns.specs.Visits.{one-there}
+use Rattle.turns.specs.Bodies.{Bounds, by-place}
+use Rattle.locks.specs.Begun.{First, on, past, firstOf, namedRow, pastRow, entered, begun-is, first-on}
 use Rattle.slots.specs.Lent.{Within, part, part-is, lent, row-size, now-within, now-length, with-with, with-own, lent-is}
-use Rattle.sends.specs.Way.{gathered, least-none, least-some}
+use Rattle.sends.specs.Way.{gathered, besides, least-none, least-some}
 
 -- ---- the tests
 
@@ -31,15 +36,45 @@ unfolding sentTo
 classSent text ws values s kind c k a =
     cond (ltb c (classCount (tablesOf ws))) (sentTo text ws values s kind c c k a) (refused ws values 36)
 
-pub few-methods : (tables : List ℕ) (c m k : ℕ) → m ≡ memberCount tables c 1 → k < m → k < 32
-unfolding memberCount
-few-methods tables c m k e h = omega arith
-
 -- The send with its method's name by the word of the class.
-pub wanted-by : (tables : List ℕ) (kind o c k a name : ℕ) → name ≡ classWord tables c (72 + k) → (w : Wanted)
-    → w ≡ record { kind = kind; number = o; class = c; place = k; name = name % 1048576; argument = a } → w ≡ wanted tables kind o c k a
-wanted-by tables kind o c k a name e w q =
-    q ∙ ap (λ (n : ℕ). record { kind = kind; number = o; class = c; place = k; name = n % 1048576; argument = a }) e
+pub wanted-by : (tables : List ℕ) (kind o c k a name : ℕ) → name ≡ classWord tables c (8 + (1 * 64 + k))
+    → record { kind = kind; number = o; class = c; place = k; name = name % 1048576; argument = a } ≡ wanted tables kind o c k a
+wanted-by tables kind o c k a name e =
+    let at : 8 + (1 * 64 + k) ≡ 72 + k = omega arith in
+    ap (λ (n : ℕ). record { kind = kind; number = o; class = c; place = k; name = n % 1048576; argument = a }) (e ∙ ap (classWord tables c) at)
+
+-- 24 where there is no class c, 36 where it has no method at place k; else 0.
+unfoldable pub methodRefusal : List ℕ → ℕ → ℕ → ℕ
+unfolding memberCount
+methodRefusal tables c k = cond (leb (classCount tables) c) 24 (cond (leb (memberCount tables c 1) k) 36 0)
+
+module _ (tables : List ℕ) (c k n : ℕ) (e : n ≡ classCount tables) where
+  pub no-class : n ≤ c → 24 ≡ methodRefusal tables c k
+  unfolding methodRefusal
+  no-class h = rw (← e, le-leb n c h)
+
+  module _ (h : c < n) (m : ℕ) (q : m ≡ memberCount tables c 1) where
+    pub no-method : m ≤ k → 36 ≡ methodRefusal tables c k
+    unfolding methodRefusal
+    no-method l = rw (← e, lt-leb n c h, ← q, le-leb m k l)
+
+    pub a-method : k < m → 0 ≡ methodRefusal tables c k
+    unfolding methodRefusal
+    a-method l = rw (← e, lt-leb n c h, ← q, lt-leb m k l)
+
+module _ (tables : List ℕ) (c k n : ℕ) (e : n ≡ methodRefusal tables c k) (z : n ≡ 0) where
+  passes : (leb (classCount tables) c ≡ false) × (leb (memberCount tables c 1) k ≡ false)
+  unfolding methodRefusal
+  passes = go (leb (classCount tables) c) refl (leb (memberCount tables c 1) k) refl
+    where
+      go : (x : Bool) → leb (classCount tables) c ≡ x → (y : Bool) → leb (memberCount tables c 1) k ≡ y → (x ≡ false) × (y ≡ false)
+      go true p y q = absurd (omega (arith, e, ap {B = ℕ} (λ (x : Bool). cond x 24 (cond (leb (memberCount tables c 1) k) 36 0)) p))
+      go false p true q = absurd (omega (arith, e, ap₂ {C = ℕ} (λ (x y : Bool). cond x 24 (cond y 36 0)) p q))
+      go false p false q = (refl, refl)
+
+  pub few : k < 32
+  unfolding memberCount
+  few = omega (arith, leb-false (memberCount tables c 1) k (passes .1))
 
 module _ (text ws values : List ℕ) (s k a : ℕ) where
   pub to-class : (c : ℕ) → classSent text ws values s 1 c k a ≡ sentBy text ws values s (to (class c) k a)
@@ -66,23 +101,50 @@ module _ (text ws values : List ℕ) (s k a : ℕ) where
         → sentTo text ws values s 0 o c k a ≡ sentBy text ws values s (to (object o) k a)
     object-there o c e h q = rw (← e, lt-ltb o n h, q)
 
-  module _ (kind o c n : ℕ) (e : n ≡ classCount (tablesOf ws)) where
-    pub sent-misfit : n ≤ c → refused ws values 24 ≡ sentTo text ws values s kind o c k a
+  -- The method's test, then the locks.
+  module _ (kind o c n : ℕ) (e : n ≡ methodRefusal (tablesOf ws) c k) where
+    pub sent-refused : (n ≡ 0 → ⊥) → refused ws values n ≡ sentTo text ws values s kind o c k a
+    unfolding sentTo methodRefusal
+    sent-refused z = go (leb (classCount (tablesOf ws)) c) refl (leb (memberCount (tablesOf ws) c 1) k) refl
+      where
+        go : (x : Bool) → leb (classCount (tablesOf ws)) c ≡ x → (y : Bool) → leb (memberCount (tablesOf ws) c 1) k ≡ y → refused ws values n ≡ sentTo text ws values s kind o c k a
+        go true p y q = rw p (ap (refused ws values) (e ∙ rw p))
+        go false p true q = rw (p, q) (ap (refused ws values) (e ∙ rw (p, q)))
+        go false p false q = absurd (z (e ∙ rw (p, q)))
+
+    pub sent-there : n ≡ 0 → (w : Wanted) → w ≡ wanted (tablesOf ws) kind o c k a
+        → grantedOr text ws values s w (least (inTheWay text ws s w) 8) ≡ sentTo text ws values s kind o c k a
     unfolding sentTo
-    sent-misfit h = rw (← e, le-leb n c h)
+    sent-there z w r =
+        let p = passes (tablesOf ws) c k n e z in
+        ap (λ (x : Wanted). grantedOr text ws values s x (least (inTheWay text ws s x) 8)) r ∙ rw (p .0, p .1)
 
-    module _ (h : c < n) (m : ℕ) (q : m ≡ memberCount (tablesOf ws) c 1) where
-      pub sent-none : m ≤ k → refused ws values 36 ≡ sentTo text ws values s kind o c k a
-      unfolding sentTo
-      sent-none l = rw (← e, lt-leb n c h, ← q, le-leb m k l)
+-- ---- an object that is there
 
-      by-tests : k < m → let w = wanted (tablesOf ws) kind o c k a in grantedOr text ws values s w (least (inTheWay text ws s w) 8) ≡ sentTo text ws values s kind o c k a
-      unfolding sentTo
-      by-tests l = rw (← e, lt-leb n c h, ← q, lt-leb m k l)
+-- The object o is there, and c is its class.
+pub record ObjectOf (tables : List ℕ) (o c : ℕ) : Type 0 where
+  pub there : o < objectCount tables
+  pub class-is : c ≡ objectWord tables o 1
 
-      pub sent-there : k < m → (w : Wanted) → w ≡ wanted (tablesOf ws) kind o c k a
-          → grantedOr text ws values s w (least (inTheWay text ws s w) 8) ≡ sentTo text ws values s kind o c k a
-      sent-there l w r = ap (λ (x : Wanted). grantedOr text ws values s x (least (inTheWay text ws s x) 8)) r ∙ by-tests l
+-- The send is to an object that is there, and its method is one of 32.
+pub record ToObject (tables : List ℕ) (q : Wanted) : Type 0 where
+  pub kind-is : q .kind ≡ 0
+  pub object-is : ObjectOf tables (q .number) (q .class)
+  pub few : q .place < 32
+
+pub to-object : (tables : List ℕ) (o c k a : ℕ) → ObjectOf tables o c → k < 32 → (w : Wanted) → w ≡ wanted tables 0 o c k a → ToObject tables w
+to-object tables o c k a t h w e = subst (ToObject tables) (sym e) (record { kind-is = refl; object-is = t; few = h })
+
+-- Its message starts there, with the body that its class writes.
+pub first-there : (text tables : List ℕ) (q : Wanted) → ToObject tables q → (t : Bool) → t ≡ writesAt tables (q .class) (q .place) (q .name) → t ≡ true
+    → (first end : ℕ) → Bounds (memberAt text tables (q .class) 1 (q .place)) first end → on (q .number) first end ≡ firstOf text tables q
+unfolding objectFrom inTarget
+first-there text tables q o t w z first end b =
+    let h : q .number < objectCount tables = o .object-is .there in
+    let e : q .number ≡ objectFrom tables (q .kind) (q .number) 0 =
+    one-there (q .number) (objectCount tables - 0) 0 (omega arith) (omega (arith, h)) ∙ ap (λ (x : ℕ). objectFrom tables x (q .number) 0) (sym (o .kind-is)) in
+    first-on text tables q (q .number) (objectCount tables) e refl h (q .class) (o .object-is .class-is) first end
+    (by-place text tables (q .class) (q .place) (q .name) first end t w z b)
 
 -- ---- the slots in the way
 
@@ -91,9 +153,78 @@ module _ (text ws : List ℕ) (s : ℕ) (q : Wanted) (t : ℕ) where
   unfolding inTheWay
   own-slot e = rw (eq-eqb t s e)
 
-  pub other-slot : (t ≡ s → ⊥) → rowMeets text (tablesOf ws) q (part ws t) ≡ inTheWay text ws s q t
+  pub other-slot : (t ≡ s → ⊥) → 2 ≤ q .kind → domainClashes text (tablesOf ws) q (part ws t) ≡ inTheWay text ws s q t
   unfolding inTheWay
-  other-slot e = rw (ne-eqb t s e, part-is ws t)
+  other-slot e k = meets-domain text (tablesOf ws) q (part ws t) k ∙ rw (ne-eqb t s e, part-is ws t)
+
+-- Slot t holds one of the methods at a word of its row, or on class d with its objects.
+unfoldable pub holding : List ℕ → ℕ → ℕ → ℕ → ℕ → Bool
+unfolding rowOf holdsOne
+holding ws word d methods t = holdsOne (rowOf ws t) word d methods
+
+pub holds-part : (ws : List ℕ) (word d methods t : ℕ) → holdsOne (part ws t) word d methods ≡ holding ws word d methods t
+unfolding holding
+holds-part ws word d methods t = ap (λ (row : List ℕ). holdsOne row word d methods) (part-is ws t)
+
+-- What the first n slots hold there together.
+unfoldable pub heldUpto : List ℕ → ℕ → ℕ → ℕ → ℕ
+unfolding rowOf
+heldUpto ws word d zero = 0
+heldUpto ws word d (suc n) = bitOr (heldUpto ws word d n) (heldAt (rowOf ws n) word d)
+
+pub held-more : (ws : List ℕ) (word d n held one : ℕ) → held ≡ heldUpto ws word d n → one ≡ heldAt (part ws n) word d → bitOr held one ≡ heldUpto ws word d (n + 1)
+unfolding heldUpto
+held-more ws word d n held one e q = rw (add-one n) (ap₂ bitOr e (q ∙ ap (λ (row : List ℕ). heldAt row word d) (part-is ws n)))
+
+-- Where that has none of the methods, no slot holds one.
+module _ (ws : List ℕ) (word d methods : ℕ) (few : methods < 4294967296) where
+  has-one : (a b : ℕ) → bitAnd (bitOr a b) methods ≡ 0 → (bitAnd a methods ≡ 0) × (bitAnd b methods ≡ 0)
+  unfolding meets
+  has-one a b e = (none-left (eqb (bitAnd a methods) 0) refl, none-right (eqb (bitAnd a methods) 0) (eqb (bitAnd b methods) 0) refl refl)
+    where
+      same : 4294967295 - (4294967295 - methods) ≡ methods
+      same = omega arith
+
+      either : (not (eqb (bitAnd a methods) 0) || not (eqb (bitAnd b methods) 0)) ≡ false
+      either =
+          sym (subst (λ (m : ℕ). not (eqb (bitAnd (bitOr a b) m) 0) ≡ (not (eqb (bitAnd a m) 0) || not (eqb (bitAnd b m) 0))) same
+          (meets-or a b (4294967295 - methods) (omega arith)))
+          ∙ ap (λ (x : ℕ). not (eqb x 0)) e
+
+      none-left : (x : Bool) → eqb (bitAnd a methods) 0 ≡ x → bitAnd a methods ≡ 0
+      none-left true p = eqb-true (bitAnd a methods) 0 p
+      none-left false p = absurd (true≢false (sym (ap (λ (x : Bool). not x || not (eqb (bitAnd b methods) 0)) p) ∙ either))
+
+      none-right : (x y : Bool) → eqb (bitAnd a methods) 0 ≡ x → eqb (bitAnd b methods) 0 ≡ y → bitAnd b methods ≡ 0
+      none-right x true p q = eqb-true (bitAnd b methods) 0 q
+      none-right true false p q = absurd (true≢false (sym (ap₂ (λ (x y : Bool). not x || not y) p q) ∙ either))
+      none-right false false p q = absurd (true≢false (sym (ap₂ (λ (x y : Bool). not x || not y) p q) ∙ either))
+
+  pub none-holds : (s n : ℕ) → bitAnd (heldUpto ws word d n) methods ≡ 0 → gathered (besides s (holding ws word d methods)) n ≡ 0
+  unfolding gathered holding heldUpto holdsOne
+  none-holds s zero e = refl
+  none-holds s (suc n) e =
+      let both = has-one (heldUpto ws word d n) (heldAt (rowOf ws n) word d) e in
+      rw (none-holds s n (both .0), eq-eqb (bitAnd (heldAt (rowOf ws n) word d) methods) 0 (both .1)) (go (eqb n s))
+    where
+      go : (x : Bool) → 0 + digit (not x && false) * 2 ^ n ≡ 0
+      go true = omega arith
+      go false = omega arith
+
+-- The slots that hold a conflict at the target's word are those in the way.
+module _ (text ws : List ℕ) (s : ℕ) (q : Wanted) (methods : ℕ) (m : methods ≡ conflictsOf (tablesOf ws) (q .class) (q .place)) where
+  at-word : (word : ℕ) → ((row : List ℕ) → holdsOne row word (q .class) (conflictsOf (tablesOf ws) (q .class) (q .place)) ≡ rowMeets text (tablesOf ws) q row)
+      → gathered (besides s (holding ws word (q .class) methods)) 8 ≡ gathered (inTheWay text ws s q) 8
+  unfolding holding inTheWay
+  at-word word same =
+      ap (λ (p : ℕ → Bool). gathered p 8)
+      (fun-ext (λ t. ap (λ (b : Bool). not (eqb t s) && b) (ap (holdsOne (rowOf ws t) word (q .class)) m ∙ same (rowOf ws t))))
+
+  pub object-in-the-way : q .kind ≡ 0 → gathered (besides s (holding ws (56 + q .number) (q .class) methods)) 8 ≡ gathered (inTheWay text ws s q) 8
+  object-in-the-way h = at-word (56 + q .number) (λ row. meets-object text (tablesOf ws) q row h)
+
+  pub class-in-the-way : q .kind ≡ 1 → gathered (besides s (holding ws (120 + q .class) (q .class) methods)) 8 ≡ gathered (inTheWay text ws s q) 8
+  class-in-the-way h = at-word (120 + q .class) (λ row. meets-class text (tablesOf ws) q row h)
 
 -- ---- the locks of a domain, class by class
 
@@ -218,6 +349,16 @@ module _ (text ws : List ℕ) (s : ℕ) (h : Within ws s) (q : Wanted) where
       r
       ∙ ap₂ (λ (x l : List ℕ). withRow x s l) e (ap₂ (λ (t l : List ℕ). begunRow text t q l) tables own)
       ∙ with-with ws s h row (begunRow text (tablesOf ws) q row) long (begun-length text (tablesOf ws) q row ∙ long)
+
+  -- Both in the row lent, of a send to an object.
+  pub taken-lent : ToObject (tablesOf ws) q → (f : First) → f ≡ firstOf text (tablesOf ws) q → (row row′ : List ℕ) → row ≡ lockedTarget q (part ws s)
+      → length row′ ≡ 2264 → row′ ≡ entered q f row
+      → lent ws s row′ ≡ withRow ws s (begunRow text (tablesOf ws) q (locked text (tablesOf ws) q (rowOf ws s)))
+  taken-lent t f e row row′ r long r′ =
+      let held : List ℕ = locked text (tablesOf ws) q (rowOf ws s) in
+      let is : row ≡ held =
+      r ∙ ap (lockedTarget q) (part-is ws s) ∙ target-locked text (tablesOf ws) q (rowOf ws s) (omega (arith, t .kind-is)) (t .few) in
+      lent-is ws s h row′ (begunRow text (tablesOf ws) q held) long (r′ ∙ ap₂ (entered q) e is ∙ sym (begun-is text (tablesOf ws) q held))
 
   pub begun-lent : (f : First) → f ≡ firstOf text (tablesOf ws) q → (row : List ℕ) → length row ≡ 2264 → row ≡ entered q f (part ws s)
       → lent ws s row ≡ withRow ws s (begunRow text (tablesOf ws) q (rowOf ws s))

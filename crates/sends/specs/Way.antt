@@ -1,14 +1,17 @@
 -- The slots in a send's way, gathered in a mask from slot 0 on: its trailing zeros are the lowest of them.
-use Prim.Native.Nat.{ℕ, zero, suc, _+_, _*_, _/_, _%_, _^_, _≤_, _<_}
+use Prim.Native.Nat.{ℕ, zero, suc, _+_, _-_, _*_, _/_, _%_, _^_, _≤_, _<_}
 use native.Mathlib.Omega.{arith}
+use native.Mathlib.Decide.{decLt}
 use native.Mathlib.Nat.{pow-suc, mul-assoc}
 use native.Mathlib.Numerals.{add-one}
 use mathlib.Core.Path.{_≡_, refl, sym, ap, ap₂, subst, _∙_}
-use mathlib.Core.Bool.{Bool, true, false, cond}
+use mathlib.Core.Bool.{Bool, true, false, not, cond, _&&_}
 use mathlib.Core.Option.{none, some, orElse}
 use lib.Pow.{pow-pos, shl-exact}
 use lib.Bits.{bitOr, or-shifted-r}
 use lib.Count.{under, trailingZeros}
+use lib.Dec.{eqb}
+use borrow.Author.Tests.{eq-eqb, ne-eqb}
 use Rattle.model.specs.Base.{least, digit}
 
 -- Bit k is 1 exactly for the numbers k below n of which p holds.
@@ -42,6 +45,51 @@ module _ (p : ℕ → Bool) (m n : ℕ) (h : n < 32) (e : m ≡ gathered p n) wh
   pub pass : p n ≡ false → m ≡ gathered p (n + 1)
   unfolding gathered
   pass t = rw (add-one n, t, ← e) (omega arith)
+
+-- ---- one number less
+
+-- All but the number s.
+abbrev pub besides : ℕ → (ℕ → Bool) → ℕ → Bool
+besides s p n = not (eqb n s) && p n
+
+module _ (p : ℕ → Bool) (s : ℕ) where
+  unchanged : (n : ℕ) → n ≤ s → gathered (besides s p) n ≡ gathered p n
+  unfolding gathered
+  unchanged zero h = refl
+  unchanged (suc n) h =
+      let e : eqb n s ≡ false = ne-eqb n s (λ x. omega arith) in
+      ap₂ _+_ (unchanged n (omega arith)) (ap (λ (b : Bool). digit (not b && p n) * 2 ^ n) e)
+
+  one-less : (n : ℕ) → s < n → gathered (besides s p) n + digit (p s) * 2 ^ s ≡ gathered p n
+  unfolding gathered
+  one-less zero h = absurd (omega arith)
+  one-less (suc n) h = go (decLt s n) (one-less n)
+    where
+      go : Dec (s < n) → (s < n → gathered (besides s p) n + digit (p s) * 2 ^ s ≡ gathered p n)
+          → gathered (besides s p) (suc n) + digit (p s) * 2 ^ s ≡ gathered p (suc n)
+      go (yes l) rest =
+          let e : eqb n s ≡ false = ne-eqb n s (λ x. omega arith) in
+          let r = rest l in
+          rw e (omega (arith, r))
+      go (no l) rest =
+          let e : s ≡ n = omega arith in
+          let r = unchanged n (omega arith) in
+          let t : eqb n s ≡ true = eq-eqb n s (omega arith) in
+          let d = ap (λ (x : ℕ). digit (p x) * 2 ^ x) e in
+          rw t (omega (arith, r, d))
+
+  module _ (m n : ℕ) (h : s < n) (k : n ≤ 32) (e : m ≡ gathered p n) where
+    bit-is : (1 * 2 ^ s) % 2 ^ 32 ≡ 2 ^ s
+    bit-is = let x = shl-exact {a = 1} 1 s 32 (omega arith) (omega arith) in x ∙ (omega arith)
+
+    pub out-fits : p s ≡ true → (1 * 2 ^ s) % 2 ^ 32 ≤ m
+    out-fits t = rw bit-is (let r = one-less n h in let d = ap (λ (b : Bool). digit b * 2 ^ s) t in omega (arith, r, d, e))
+
+    pub out : p s ≡ true → m - (1 * 2 ^ s) % 2 ^ 32 ≡ gathered (besides s p) n
+    out t = rw bit-is (let r = one-less n h in let d = ap (λ (b : Bool). digit b * 2 ^ s) t in omega (arith, r, d, e))
+
+    pub stays : p s ≡ false → m ≡ gathered (besides s p) n
+    stays t = let r = one-less n h in let d = ap (λ (b : Bool). digit b * 2 ^ s) t in omega (arith, r, d, e)
 
 -- ---- trailing zeros
 

@@ -9,7 +9,7 @@ use Rattle.model.specs.Base.{fold, upto, any}
 use Rattle.model.specs.Library.{memberPlace}
 use Rattle.words.specs.View.{nameOf, objectWord, classWord, classCount, objectCount, memberCount, membersOf, bit}
 use Rattle.state.specs.Row.{objectRow}
-use Rattle.state.specs.Turn.{objectFrom, bodyIn}
+use Rattle.state.specs.Turn.{objectFrom, bodyAt}
 
 -- A target, an object, a class or a domain by its kind 0, 1 or 2 and its number, with the class in which the method is
 -- counted, the method's place there, its name's word, and the send's argument.
@@ -80,9 +80,9 @@ locked text tables q row =
 
 -- The row with the message at its start: on its first object, or past the last object where there is none.
 unfoldable pub begunRow : List ℕ → List ℕ → Wanted → List ℕ → List ℕ
-unfolding objectFrom bodyIn objectWord nameOf objectRow
+unfolding objectFrom bodyAt objectWord objectRow
 begunRow text tables q row =
     let named = set (set (set (set (set row 0 2) 5 (q .kind)) 6 (q .number)) 7 (q .name)) 8 (q .argument) in
     let o = objectFrom tables (q .kind) (q .number) 0 in
-    let b = bodyIn text tables (objectWord tables o 1) (nameOf text (q .name)) in
+    let b = bodyAt text tables (objectWord tables o 1) (q .place) (q .name) in
     cond (ltb o (objectCount tables)) (objectRow o (b .first) (b .first + b .count) 0 named) (set (set (set (set named 4 o) 1 0) 2 0) 3 0)

@@ -1,7 +1,7 @@
 -- A slot's row of the state, 2,264 words, and what a turn does to it. A closed slot's row is all zero.
 --   0 phase: 0 closed, 1 open, 2 a message runs · 1 how many activations · 2 steps on this object · 3 the replies' sum
 --   4 the object that the message is on · 5 target: 0 an object, 1 a class, 2 a domain · 6 its number
---   7 the method's name (place * 32 + length) · 8 the argument · 9 to 15 spare
+--   7 the method's name (place * 32 + length) · 8 the argument · 9 whether a value was set: 0 or 1 · 10 to 15 spare
 --   16 + k * 5    activation k: its next statement, the statement past its last, its arg, its got, its reply
 --   56 + o        object o's locks, bit j for method j of its class
 --   120 + c       class c's locks (M, false) · 136 + c its locks (M, true), bit j for method j
@@ -12,7 +12,7 @@ use mathlib.Core.Option.{Option, none, some}
 use mathlib.Core.List.{List, _++_}
 use lib.ListN.{getD, set, drop, replicate}
 use lib.Bits.{bitOr}
-use lib.Dec.{ltb}
+use lib.Dec.{eqb, ltb}
 use Rattle.model.specs.Undo.{Undo, putBack}
 use Rattle.words.specs.View.{bit}
 
@@ -86,7 +86,7 @@ unfoldable pub notedRow : List ℕ → ℕ → ℕ → List ℕ
 unfolding bit
 notedRow row k v =
     let marks = getD row (152 + k / 32) 0 in
-    cond (ltb k 2048) (cond (bit marks (k % 32)) row (set (set row (152 + k / 32) (bitOr marks (2 ^ (k % 32)))) (216 + k) v)) row
+    cond (ltb k 2048) (cond (bit marks (k % 32)) row (set (set (set row 9 1) (152 + k / 32) (bitOr marks (2 ^ (k % 32)))) (216 + k) v)) row
 
 -- ---- what each turn leaves
 
@@ -125,11 +125,12 @@ unfoldable pub unnoted : List ℕ → List ℕ
 unfolding bit putBack
 unnoted row = putBack (λ i. cond (ltb i 216) none (noteIf (bit (getD row (152 + (i - 216) / 32) 0) ((i - 216) % 32)) 0)) row
 
--- "frees the slot": the notes that were made and the first 216 words are 0. No other note is anything but 0 in a row that
--- represents an open slot, so that it is blank then (crates/refine/specs/Freeing.antt); and 8 KiB need not be written.
+-- "frees the slot": the words before the marks are 0, and where a value was set the marks and the notes that were made. No
+-- other word is anything but 0 in a row that represents an open slot, so that it is blank then
+-- (crates/refine/specs/Freeing.antt); and 8 KiB need not be written.
 unfoldable pub freed : List ℕ → List ℕ
 unfolding unnoted
-freed row = replicate 216 0 ++ drop 216 (unnoted row)
+freed row = cond (eqb (getD row 9 0) 0) (replicate 152 0 ++ drop 152 row) (replicate 216 0 ++ drop 216 (unnoted row))
 
 -- The transaction undone: "puts back .. and frees the slot".
 abbrev pub undoneTo : Said → List ℕ → List ℕ → Left

@@ -1,7 +1,7 @@
 -- What the next step of a running message is, by the text, the tables, the slot's row and the values. Every number that is
 -- read from the words and used as a place is tested here; one that does not fit gives 24.
-use Prim.Native.Nat.{ℕ, zero, suc, _+_, _-_, _%_}
-use mathlib.Core.Bool.{Bool, true, not, cond, _||_}
+use Prim.Native.Nat.{ℕ, zero, suc, _+_, _-_, _/_, _%_}
+use mathlib.Core.Bool.{Bool, true, not, cond, _&&_, _||_}
 use mathlib.Core.Option.{Option, none, some}
 use mathlib.Core.List.{List}
 use lib.ListN.{length, getD, take, drop}
@@ -12,7 +12,7 @@ use Rattle.model.specs.Expression.{Expression, valueOf}
 use Rattle.model.specs.Form.{Action, send, sendPrefixed, Statement, Form, classLine, fieldLine, methodLine, statementLine, endLine, objectLine, malformed, formOf}
 use Rattle.model.specs.Form as Line
 use Rattle.model.specs.Library.{Member, classAt, member, memberPlace, classNumber, byFirstParent}
-use Rattle.words.specs.View.{nameOf, partOf, statementWord, objectWord, classWord, classCount, statementCount, objectCount, memberCount, membersOf, bit, libraryOf}
+use Rattle.words.specs.View.{nameOf, partOf, statementWord, objectWord, classWord, classCount, statementCount, objectCount, memberCount, memberAt, membersOf, bit, libraryOf}
 use Rattle.state.specs.Row.{Turn, misfit, stop, skip, assign, call, reply, back, next, answer, act, top}
 
 -- ---- objects
@@ -40,6 +40,19 @@ unfolding libraryOf byFirstParent member
 bodyIn text tables c m =
     let l = libraryOf text tables in
     member (classAt l (byFirstParent l c m) .methods) m
+
+-- Class c writes the method at its place k itself, and its name's word is w.
+unfoldable pub writesAt : List ℕ → ℕ → ℕ → ℕ → Bool
+unfolding memberCount classWord
+writesAt tables c k w =
+    let x = classWord tables c (72 + k) in
+    ltb k (memberCount tables c 1) && (eqb (x / 1048576) c && eqb (x % 1048576) w)
+
+-- The same body by the method's place, where the class writes it there; else by its name. On the tables of a text both are one
+-- (body-at in crates/refine/specs/Tables.antt); by its place it is found at once.
+unfoldable pub bodyAt : List ℕ → List ℕ → ℕ → ℕ → ℕ → Member
+unfolding writesAt memberAt bodyIn nameOf
+bodyAt text tables c k w = cond (writesAt tables c k w) (memberAt text tables c 1 k) (bodyIn text tables c (nameOf text w))
 
 -- A message's turn to an object: its own class's method of the name sent.
 abbrev pub nextTurn : List ℕ → List ℕ → ℕ → ℕ → ℕ → Turn

@@ -1,18 +1,18 @@
 -- The body of a class's method by name: two look-ups, of the class whose writing it is and of the method there.
 use Prim.Native.Nat.{ℕ, _+_, _*_, _/_, _%_, _≤_, _<_}
 use mathlib.Core.Path.{_≡_, refl, sym, ap, _∙_}
-use mathlib.Core.Bool.{Bool, true, false, cond}
+use mathlib.Core.Bool.{Bool, true, false, cond, _&&_}
 use mathlib.Core.List.{List, [], map}
 use native.Mathlib.Omega.{arith}
 use lib.ListN.{length, getD, length-map, List·getD-map, List·getD-eq-default}
-use lib.Dec.{ltb}
-use borrow.Author.Tests.{ltb-true, ltb-false}
+use lib.Dec.{eqb, ltb}
+use borrow.Author.Tests.{lt-ltb, le-ltb, ltb-true, ltb-false}
 use Rattle.model.specs.Word.{Name}
 use Rattle.model.specs.Library.{Member, Class, noMember, classAt, member, memberPlace, byFirstParent}
-use Rattle.words.specs.View.{classWord, classCount, memberCount, memberAt, membersOf, classOf, libraryOf}
+use Rattle.words.specs.View.{nameOf, classWord, classCount, memberCount, memberAt, membersOf, classOf, libraryOf}
 use Rattle.words.specs.Upto.{getD-upto}
 use Rattle.words.specs.Look.{shownCount, class-count, class-at, class-past, member-count}
-use Rattle.state.specs.Turn.{bodyIn}
+use Rattle.state.specs.Turn.{bodyIn, writesAt, bodyAt}
 
 -- The statements of a body: its first, and the one past its last.
 pub record Bounds (m : Member) (first end : ℕ) : Type 0 where
@@ -101,11 +101,35 @@ module _ (text tables : List ℕ) (c k : ℕ) (n : Name) (i : ℕ) (f : i ≡ me
   body-by m e = ap (λ (d : ℕ). member (classAt (libraryOf text tables) d .methods) n) (sym o) ∙ e
 
   module _ (j : ℕ) (e : j ≡ memberPlace (membersOf text tables k 1) n) where
-    pub body-there : (w : ℕ) → w ≡ classWord tables k (40 + (1 * 64 + j)) → j < shownCount tables k 1 → Bounds (bodyIn text tables c n) (w / 64) (w / 64 + w % 64)
-    unfolding memberAt
-    body-there w q h =
-        let b = body-by (memberAt text tables k 1 j) (member-there text tables k n j e h) in
-        rw (b, q) (record { first-is = refl; end-is = refl })
+    pub body-there : (first end : ℕ) → Bounds (memberAt text tables k 1 j) first end → j < shownCount tables k 1 → Bounds (bodyIn text tables c n) first end
+    body-there first end b h = rw (body-by (memberAt text tables k 1 j) (member-there text tables k n j e h)) b
 
     pub body-none : shownCount tables k 1 ≤ j → Bounds (bodyIn text tables c n) 0 0
     body-none h = rw (body-by noMember (member-none text tables k n j e h)) (record { first-is = refl; end-is = refl })
+
+-- The word of a method's body.
+pub word-bounds : (text tables : List ℕ) (k j w : ℕ) → w ≡ classWord tables k (40 + (1 * 64 + j)) → Bounds (memberAt text tables k 1 j) (w / 64) (w / 64 + w % 64)
+unfolding memberAt
+word-bounds text tables k j w q = rw q (record { first-is = refl; end-is = refl })
+
+-- The test of the method at place k of class c, which has n.
+module _ (tables : List ℕ) (c k w n : ℕ) (m : n ≡ memberCount tables c 1) where
+  pub writes-none : n ≤ k → false ≡ writesAt tables c k w
+  unfolding writesAt
+  writes-none h = rw (← m, le-ltb k n h)
+
+  pub writes-there : k < n → (x : ℕ) → x ≡ classWord tables c (8 + (1 * 64 + k)) → (eqb (x / 1048576) c && eqb (x % 1048576) w) ≡ writesAt tables c k w
+  unfolding writesAt
+  writes-there h x q =
+      let at : 8 + (1 * 64 + k) ≡ 72 + k = omega arith in
+      rw (← m, lt-ltb k n h, ← at, ← q)
+
+-- The method by its place, or by its name.
+module _ (text tables : List ℕ) (c k w first end : ℕ) (t : Bool) (e : t ≡ writesAt tables c k w) where
+  pub by-place : t ≡ true → Bounds (memberAt text tables c 1 k) first end → Bounds (bodyAt text tables c k w) first end
+  unfolding bodyAt
+  by-place h b = rw (← e, h) b
+
+  pub by-name : t ≡ false → (name : Name) → name ≡ nameOf text w → Bounds (bodyIn text tables c name) first end → Bounds (bodyAt text tables c k w) first end
+  unfolding bodyAt
+  by-name h name n b = rw (← e, h, ← n) b

@@ -1,8 +1,10 @@
 // The body that a class runs for a method's name.
+ghost use Prim.Native.Nat.{ℕ};
 ghost use mathlib.Core.Path.{_≡_};
+ghost use mathlib.Core.List.{List};
 ghost use Rattle.model.specs.Library.{memberPlace};
-ghost use Rattle.words.specs.View.{membersOf};
-ghost use Rattle.state.specs.Turn.{bodyIn};
+ghost use Rattle.words.specs.View.{memberAt, membersOf};
+ghost use Rattle.state.specs.Turn.{bodyIn, writesAt, bodyAt};
 ghost use Rattle.turns.specs.Bodies.{Bounds, originAt};
 
 const METHODS: u32 = 1;
@@ -35,6 +37,17 @@ fn place_in(text: &[u8], tables: &[u32], class: u32, found: u32, origin: u32, na
     words::find(text, tables, origin, METHODS, name)
 }
 
+// The body of the method at a place of a class, by its word.
+pub fn body_of(tables: &[u32], class: u32, place: u32) -> Body
+    ensures { λ r. ⌜ ((text : List ℕ) → Bounds (memberAt text (now (tables .entry)) class 1 place) (r .first) (r .end)) ⌝ }
+{
+    let word = words::body_word(tables, class, METHODS, place);
+    Body {
+        first: word / 64,
+        end: word / 64 + word % 64,
+    }
+}
+
 // The body of a class's method of that name; an empty one where there is no such method.
 pub fn body_in(text: &[u8], tables: &[u32], class: u32, name: &[u8]) -> Body
     ensures { λ r. ⌜ Bounds (bodyIn (now (text .entry)) (now (tables .entry)) class (now (name .entry))) (r .first) (r .end) ⌝ }
@@ -43,12 +56,30 @@ pub fn body_in(text: &[u8], tables: &[u32], class: u32, name: &[u8]) -> Body
     let origin = origin_at(tables, class, found);
     let place = place_in(text, tables, class, found, origin, name);
     if place < words::shown_count(tables, origin, METHODS) {
-        let word = words::body_word(tables, origin, METHODS, place);
-        Body {
-            first: word / 64,
-            end: word / 64 + word % 64,
-        }
+        body_of(tables, origin, place)
     } else {
         Body { first: 0, end: 0 }
+    }
+}
+
+// The class writes the method at that place itself, and its name's word is this.
+pub fn writes_at(tables: &[u32], class: u32, place: u32, name: u32) -> bool
+    ensures { λ r. ⌜ r ≡ writesAt (now (tables .entry)) class place name ⌝ }
+{
+    if words::member_count(tables, class, METHODS) <= place {
+        return false;
+    }
+    let word = words::member_word(tables, class, METHODS, place);
+    (word / 1048576 == class) & (word % 1048576 == name)
+}
+
+// The body of a class's method by its name's word: at a place, if the class writes it there; else by its name.
+pub fn body_at(text: &[u8], tables: &[u32], class: u32, place: u32, name: u32) -> Body
+    ensures { λ r. ⌜ Bounds (bodyAt (now (text .entry)) (now (tables .entry)) class place name) (r .first) (r .end) ⌝ }
+{
+    if writes_at(tables, class, place, name) {
+        body_of(tables, class, place)
+    } else {
+        body_in(text, tables, class, words::name_of(text, name))
     }
 }

@@ -1,34 +1,18 @@
 -- A row freed, as loops make it: its notes by their marks, then its first words.
 use Prim.Native.Nat.{ℕ, zero, suc, _+_, _-_, _/_, _%_, _≤_, _<_}
 use native.Mathlib.Omega.{arith}
-use native.Mathlib.Decide.{ℕ-discrete, decLt}
 use mathlib.Core.Path.{_≡_, refl, sym, ap, subst, _∙_}
-use mathlib.Core.Bool.{Bool, true, false, not, cond, _||_, true≢false}
+use mathlib.Core.Bool.{Bool, true, false, cond}
 use mathlib.Core.Option.{none}
 use mathlib.Core.List.{List}
 use lib.ListN.{length, getD, set}
-use lib.Seq.{ext-getD}
-use lib.Dec.{eqb, ltb}
-use borrow.Author.Tests.{lt-ltb, le-ltb, eqb-true, not-false}
+use lib.Dec.{ltb}
+use borrow.Author.Tests.{lt-ltb, le-ltb}
 use Rattle.model.specs.Undo.{Undo, restored, putBack}
 use Rattle.words.specs.View.{bit}
 use Rattle.words.specs.Bits.{bit-zero}
 use Rattle.state.specs.Row.{noteIf, unnoted}
 use Rattle.undo.specs.Over.{over, over-made, over-skip, over-put, over-keep, put-back-length, put-back-at}
-
--- No mark stands.
-abbrev pub Unmarked : List ℕ → Type 0
-Unmarked row = (i : ℕ) → 152 ≤ i → i < 216 → getD row i 0 ≡ 0
-
--- One word more has been looked at.
-pub seen-next : (row : List ℕ) (noted : Bool) (i : ℕ) → (noted ≡ false → (j : ℕ) → 152 ≤ j → j < i → getD row j 0 ≡ 0)
-    → (noted || not (eqb (getD row i 0) 0)) ≡ false → (j : ℕ) → 152 ≤ j → j < i + 1 → getD row j 0 ≡ 0
-seen-next row true i so e j g h = absurd (true≢false e)
-seen-next row false i so e j g h = go (ℕ-discrete j i)
-  where
-    go : Dec (j ≡ i) → getD row j 0 ≡ 0
-    go (yes q) = ap (λ (k : ℕ). getD row k 0) q ∙ eqb-true (getD row i 0) 0 (not-false (eqb (getD row i 0) 0) e)
-    go (no q) = so refl j g (omega arith)
 
 module _ (row : List ℕ) where
   abbrev made : Undo
@@ -66,17 +50,6 @@ module _ (row : List ℕ) where
     -- Nothing is done before the notes.
     pub unnoted-begun : row ≡ over 216 (unnoted row) row
     unnoted-begun = over-skip 0 216 (unnoted row) row unnoted-length (omega arith) (λ j g h. unnoted-before j (omega arith) (omega arith))
-
-    -- Nothing is done where no mark stands.
-    pub unnoted-same : Unmarked row → row ≡ unnoted row
-    unnoted-same none′ = sym (ext-getD 0 (unnoted row) row unnoted-length (λ i h. go i h (decLt i 216)))
-      where
-        go : (i : ℕ) → i < length (unnoted row) → Dec (i < 216) → getD (unnoted row) i 0 ≡ getD row i 0
-        go i h (yes l) = unnoted-before i l (omega (arith, unnoted-length))
-        go i h (no l) =
-            let e : 216 + (i - 216) ≡ i = omega arith in
-            subst (λ (j : ℕ). getD (unnoted row) j 0 ≡ getD row j 0) e
-            (unnoted-none (i - 216) (i - 216) (none′ (152 + (i - 216) / 32) (omega arith) (omega (arith, unnoted-length))) refl (omega (arith, unnoted-length)))
 
     -- The loop over the notes: it is at value k.
     module _ (now : List ℕ) (k : ℕ) (h : k < 2048) (q : now ≡ over (216 + k) (unnoted row) row) (m : ℕ) (marks : m ≡ getD now (152 + k / 32) 0) where

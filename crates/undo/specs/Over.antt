@@ -125,7 +125,7 @@ module _ (row : List ℕ) (k v : ℕ) where
   noted-kept h e = rw (lt-ltb k 2048 h, eq-eqb (marked row k v) 1 e)
 
   pub noted-new : k < 2048 → (marked row k v ≡ 1 → ⊥)
-      → set (set row (152 + k / 32) (bitOr (getD row (152 + k / 32) 0) (2 ^ (k % 32)))) (216 + k) v ≡ notedRow row k v
+      → set (set (set row 9 1) (152 + k / 32) (bitOr (getD row (152 + k / 32) 0) (2 ^ (k % 32)))) (216 + k) v ≡ notedRow row k v
   unfolding notedRow bit
   noted-new h e = rw (lt-ltb k 2048 h, ne-eqb (marked row k v) 1 e)
 
@@ -136,3 +136,8 @@ pub zeros-at : (n k : ℕ) → _≡_ {A = ℕ} (getD (replicate n 0) k 0) 0
 zeros-at zero k = refl
 zeros-at (suc n) zero = refl
 zeros-at (suc n) (suc k) = zeros-at n k
+
+pub zeros-of : (n m : ℕ) → n ≤ m → take n (replicate {A = ℕ} m 0) ≡ replicate n 0
+zeros-of zero m h = refl
+zeros-of (suc n) zero h = absurd (omega arith)
+zeros-of (suc n) (suc m) h = ap (λ (l : List ℕ). 0 ∷ l) (zeros-of n m (le-of-suc-le-suc h))

@@ -1,14 +1,13 @@
 // The undo notes of a slot's row: for each value a mark, and the value that it had before the transaction set it; and the row
 // freed. The row's layout is in crates/state/specs/Row.antt.
-ghost use Prim.Native.Nat.{_+_, _%_, _<_};
+ghost use Prim.Native.Nat.{_+_, _%_, _≤_, _<_};
 ghost use mathlib.Core.Path.{_≡_};
-ghost use mathlib.Core.Bool.{false, cond};
+ghost use mathlib.Core.Bool.{cond};
 ghost use mathlib.Core.List.{_++_};
 ghost use lib.ListN.{length, drop, set, replicate};
 ghost use Rattle.model.specs.Undo.{restored, putBack};
 ghost use Rattle.words.specs.View.{bit};
 ghost use Rattle.state.specs.Row.{noteAt, notedRow, unnoted, freed};
-ghost use Rattle.undo.specs.Freed.{Unmarked};
 
 // The value that a set value had before; its own value where it was not set.
 fn noted_or(row: &[u32], place: usize, value: u32) -> u32
@@ -46,34 +45,21 @@ pub fn note(row: &mut [u32], place: usize, value: u32)
     if (noted >> (place % 32)) % 2 == 1 {
         return;
     }
+    words::put(row, 9, 1);
     words::put(row, word, noted | (1u32 << (place % 32)));
     words::put(row, 216 + place, value);
 }
 
-// The first 216 words are 0: all but the notes.
-fn clear_head(row: &mut [u32])
-    requires { ⌜ length (now row) ≡ 2264 ⌝ }
-    ensures { λ _. ⌜ now (row .exit) ≡ replicate 216 0 ++ drop 216 (now (row .entry)) ⌝ }
+// The first words are 0.
+fn clear_first(row: &mut [u32], count: usize)
+    requires { ⌜ (length (now row) ≡ 2264) × (count ≤ 2264) ⌝ }
+    ensures { λ _. ⌜ now (row .exit) ≡ replicate count 0 ++ drop count (now (row .entry)) ⌝ }
 {
     let mut i = 0;
-    while i < 216 {
+    while i < count {
         row[i] = 0;
         i += 1;
     }
-}
-
-// Some note was made. All marks are looked at, so that the loop takes several at once.
-fn has_notes(row: &[u32]) -> bool
-    requires { ⌜ length (now row) ≡ 2264 ⌝ }
-    ensures { λ r. ⌜ (r ≡ false → Unmarked (now (row .entry))) ⌝ }
-{
-    let mut noted = false;
-    let mut i = 152;
-    while i < 216 {
-        noted = noted | (row[i] != 0);
-        i += 1;
-    }
-    noted
 }
 
 // A note is 0 where its mark stands.
@@ -104,21 +90,15 @@ fn clear_marked(row: &mut [u32])
     }
 }
 
-// The notes are 0, if there are any.
-fn clear_notes(row: &mut [u32])
-    requires { ⌜ length (now row) ≡ 2264 ⌝ }
-    ensures { λ _. ⌜ now (row .exit) ≡ unnoted (now (row .entry)) ⌝ }
-{
-    if has_notes(row) {
-        clear_marked(row);
-    }
-}
-
-// The slot is closed: what its transaction wrote in the row is 0.
+// The slot is closed: what its transaction wrote in the row is 0. Where no value was set there are no marks and no notes.
 pub fn clear(row: &mut [u32])
     requires { ⌜ length (now row) ≡ 2264 ⌝ }
     ensures { λ _. ⌜ now (row .exit) ≡ freed (now (row .entry)) ⌝ }
 {
-    clear_notes(row);
-    clear_head(row);
+    if words::get(row, 9) == 0 {
+        clear_first(row, 152);
+        return;
+    }
+    clear_marked(row);
+    clear_first(row, 216);
 }

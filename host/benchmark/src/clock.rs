@@ -61,12 +61,18 @@ pub fn each(one: impl FnMut() -> bool) -> Time {
     both(one, || true).0
 }
 
-/// The time that a program prints for one, in nanoseconds: the least of some runs.
-pub fn of_program(program: &str, word: &str) -> Time {
-    let run = |_| {
-        let output = Command::new(program).arg(word).output().unwrap_or_else(|e| panic!("{program}: {e}"));
-        assert!(output.status.success(), "{program}: {}", String::from_utf8_lossy(&output.stderr));
-        String::from_utf8_lossy(&output.stdout).trim().parse::<Time>().expect("a number")
+/// The times that a program prints, in nanoseconds.
+pub fn of_program(program: &str, word: &str) -> Vec<Time> {
+    let output = Command::new(program).arg(word).output().unwrap_or_else(|e| panic!("{program}: {e}"));
+    assert!(output.status.success(), "{program}: {}", String::from_utf8_lossy(&output.stderr));
+    String::from_utf8_lossy(&output.stdout).split_whitespace().map(|t| t.parse().expect("a number")).collect()
+}
+
+/// The least of each of the times that programs print, run in turn: a program and its word.
+pub fn of_programs(programs: &[(&str, &str)]) -> Vec<Vec<Time>> {
+    let round = |_| programs.iter().map(|(program, word)| of_program(program, word)).collect::<Vec<_>>();
+    let least = |a: Vec<Vec<Time>>, b: Vec<Vec<Time>>| {
+        a.into_iter().zip(b).map(|(x, y)| x.into_iter().zip(y).map(|(t, u)| t.min(u)).collect()).collect()
     };
-    (0..5).map(run).reduce(f64::min).unwrap()
+    (0..10).map(round).reduce(least).unwrap()
 }

@@ -1,6 +1,7 @@
-//! How fast the proved library is: beside the second implementation, both in turn in one run, and, where its program is named
-//! as the argument, beside Berkeley DB's lock subsystem. Prints the tables of docs/PERFORMANCE.md.
-//!   benchmark [PROGRAM]
+//! How fast the proved library is: beside the second implementation, both in turn in one run, and, where the two programs of
+//! berkeley.c and transactions.c are named, beside Berkeley DB's lock subsystem. Prints the tables of docs/PERFORMANCE.md.
+//!   benchmark [BERKELEY TRANSACTIONS]
+//!   benchmark locks BERKELEY TRANSACTIONS   the last of the tables alone
 //!   benchmark profile        makes some of each call once, for callgrind
 //!   benchmark transactions   makes 100 transactions of a send to an object, for callgrind
 
@@ -73,42 +74,31 @@ fn machine(samples: &[(String, Vec<u8>)]) {
     }
 }
 
-/// A call on slot 0, on a text, a state and values.
-type OneCall = fn(&[u8], &mut [u32], &mut [u32]) -> lent::Outcome;
-
 /// A method with an empty body.
 const EMPTY: &[u8] = b"class a\nmethod m\nend\nobject o a\n";
 
-/// A transaction of a send to an object whose method has an empty body, and its parts, beside Berkeley DB's lock subsystem.
-fn locks(program: Option<&String>) {
-    let text = EMPTY;
-    let (mut values, mut state) = ([0; 0], vec![0; STATE_WORDS]);
-    lent::start(text, &values, &mut state).unwrap();
-    let mut made = |calls: &[OneCall]| {
-        each(|| calls.iter().map(|call| call(text, &mut state, &mut values)).last() == Some(lent::Outcome::Done))
-    };
-    let begin = |t: &[u8], s: &mut [u32], v: &mut [u32]| lent::begin(t, s, v, 0);
-    let send = |t: &[u8], s: &mut [u32], v: &mut [u32]| lent::send(t, s, v, 0, wrapper::machine::Target::Object(0), 0, 3);
-    let step = |t: &[u8], s: &mut [u32], v: &mut [u32]| lent::step(t, s, v, 0);
-    let commit = |t: &[u8], s: &mut [u32], v: &mut [u32]| lent::commit(t, s, v, 0);
-    let abort = |t: &[u8], s: &mut [u32], v: &mut [u32]| lent::abort(t, s, v, 0);
-    let whole = made(&[begin, send, step, commit]);
-    println!("\n| two locks and their release | time |\n|---|---|");
-    println!("| begin, commit | {} |", shown(made(&[begin, commit])));
-    println!("| begin, send, abort | {} |", shown(made(&[begin, send, abort])));
-    println!("| begin, send, step, commit | {} |", shown(whole));
-    let ways = [
-        ("plain", "one locker, one thread"),
-        ("lockers", "a locker for each transaction, one thread"),
-        ("threads", "one locker, several threads"),
-        ("service", "a locker for each transaction, several threads"),
-        ("processes", "a locker for each transaction, several processes"),
-    ];
-    for (word, what) in ways {
-        if let Some(program) = program {
-            let theirs = clock::of_program(program, word);
-            println!("| Berkeley DB, {what} | {} ({:.1} times begin, send, step, commit) |", shown(theirs), theirs / whole);
-        }
+/// Berkeley DB's ways, and what each is.
+const WAYS: [(&str, &str); 5] = [
+    ("plain", "one thread, one locker that is kept"),
+    ("lockers", "one thread, a locker for each transaction"),
+    ("threads", "several threads, one locker that is kept"),
+    ("service", "several threads, a locker for each transaction"),
+    ("processes", "several processes, a locker for each transaction"),
+];
+
+/// The two locks of a send to an object and their release, beside Berkeley DB's lock subsystem: two programs in C, in turn.
+fn locks(berkeley: &str, transactions: &str) {
+    let mut programs = vec![(transactions, "alone"), (transactions, "threads")];
+    programs.extend(WAYS.map(|(word, _)| (berkeley, word)));
+    let times = clock::of_programs(&programs);
+    let both = |t: &[Time]| t[0] + t[1];
+    println!("\n| ours | send | commit | both | begin, send, step, commit |\n|---|---|---|---|---|");
+    for (what, t) in [("the calls alone", &times[0]), ("each call between a mutex's lock and unlock", &times[1])] {
+        println!("| {what} | {:.1} ns | {:.1} ns | {:.1} ns | {:.1} ns |", t[0], t[1], both(t), t[2]);
+    }
+    println!("\n| Berkeley DB | time | times send and commit alone | with a mutex |\n|---|---|---|---|");
+    for ((_, what), t) in WAYS.iter().zip(&times[2..]) {
+        println!("| {what} | {:.0} ns | {:.1} | {:.1} |", t[0], t[0] / both(&times[0]), t[0] / both(&times[1]));
     }
 }
 
@@ -158,10 +148,12 @@ fn transactions(text: &[u8]) {
 }
 
 fn main() {
-    let word = std::env::args().nth(1);
-    match word.as_deref() {
-        Some("profile") => return profile(),
-        Some("transactions") => return transactions(EMPTY),
+    let words: Vec<String> = std::env::args().skip(1).collect();
+    let words: Vec<&str> = words.iter().map(String::as_str).collect();
+    match words[..] {
+        ["profile"] => return profile(),
+        ["transactions"] => return transactions(EMPTY),
+        ["locks", berkeley, transactions] => return locks(berkeley, transactions),
         _ => {}
     }
     let samples = texts::samples();
@@ -170,5 +162,7 @@ fn main() {
     machine(&samples);
     spread();
     growth();
-    locks(word.as_ref());
+    if let [berkeley, transactions] = words[..] {
+        locks(berkeley, transactions);
+    }
 }

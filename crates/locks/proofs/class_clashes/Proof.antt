@@ -12,9 +12,11 @@ returns-2 : tie.Need-returns-2
 returns-2 c = clash-outside _ _ _ _ _ _ (c .before .domain-place .ensures) (c .if2 .taken)
 
 returns-3 : tie.Need-returns-3
-returns-3 c = c .held-meets .ensures ∙ clash-inside _ _ _ _ _ _ (c .before .before .domain-place .ensures) (c .before .if2 .left)
+returns-3 c =
+    let t = c .before .before in
+    c .holds .ensures ∙ clash-inside _ _ _ _ _ _ (t .before .domain-place .ensures) (t .if2 .left) _ (c .before .conflicts .ensures)
 
 pub class-clashes-spec : {M : Type 1} → statement M
 class-clashes-spec =
     tie.close
-    (tie.spec (λ c. search needs) (λ c κs. search needs) returns (λ c κs. search needs) returns-2 (λ c κs. search needs) returns-3)
+    (tie.spec (λ c. search needs) (λ c κs. search needs) returns (λ c κs. search needs) returns-2 (λ c κs. search needs) (λ c κs. search needs) returns-3)

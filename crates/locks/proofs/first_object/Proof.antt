@@ -11,11 +11,11 @@ returns c =
 
 returns-2 : tie.Need-returns-2
 returns-2 c =
-    let w = c .before .before in
+    let w = c .before in
     let t = w .before in
     let n = t .before in
     first-on _ _ _ _ _ (n .before .object-from .ensures) (n .object-count .ensures) (t .if1 .left)
-    _ (w .object-word .ensures) _ (c .before .name-of .ensures) _ _ (c .body-in .ensures)
+    _ (w .object-word .ensures) _ _ (c .body-at .ensures)
 
 pub first-object-spec : {M : Type 1} → statement M
 first-object-spec =
@@ -24,7 +24,6 @@ first-object-spec =
     (λ c κs. search needs)
     (λ c κs. search needs)
     returns
-    (λ c κs. search needs)
     (λ c κs. search needs)
     (λ c κs. search needs)
     returns-2)

@@ -1,5 +1,6 @@
 -- `send` meets its contract: the tests in the order of the numbers, then the send by its target.
 use borrow.Author.Needs.{needs}
+use native.Mathlib.Omega.{arith}
 use mathlib.Core.Path.{refl}
 use Rattle.model.specs.Service.{send}
 use Rattle.model.specs.Machine.{to, object}
@@ -19,12 +20,12 @@ send-object-requires c κs =
 send-class-requires : tie.Need-send-class-requires
 send-class-requires c κs =
     let e = c .before .before .before .before in
-    idle-within _ _ _ (send _ (to (object 0) 0 0)) _ (e .before .idle-refusal .ensures) refl refl (e .if1 .left)
+    (idle-within _ _ _ (send _ (to (object 0) 0 0)) _ (e .before .idle-refusal .ensures) refl refl (e .if1 .left), omega arith)
 
 send-class-requires-2 : tie.Need-send-class-requires-2
 send-class-requires-2 c κs =
     let e = c .before .before .before .before in
-    idle-within _ _ _ (send _ (to (object 0) 0 0)) _ (e .before .idle-refusal .ensures) refl refl (e .if1 .left)
+    (idle-within _ _ _ (send _ (to (object 0) 0 0)) _ (e .before .idle-refusal .ensures) refl refl (e .if1 .left), omega arith)
 
 returns-2 : tie.Need-returns-2
 returns-2 c =

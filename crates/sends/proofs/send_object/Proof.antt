@@ -1,5 +1,6 @@
 -- `send_object` meets its contract: the object is there.
 use borrow.Author.Needs.{needs}
+use native.Mathlib.Omega.{arith}
 use mathlib.Core.Path.{refl}
 use Rattle.slots.specs.Phases.{leaves-as}
 use Rattle.sends.specs.Sent.{object-none, object-there}
@@ -9,12 +10,19 @@ use Rattle.sends.proofs.send_object.Tie as tie
 returns : tie.Need-returns
 returns c = λ values. leaves-as (object-none _ _ values _ _ _ _ _ (c .before .object-count .ensures) (c .if1 .taken)) (record { says = refl; words-are = refl; values-are = refl })
 
+send-to-object-requires : tie.Need-send-to-object-requires
+send-to-object-requires c κs =
+    let w = c .before in
+    let i = w .before .before .before in
+    let n = i .before in
+    (n .before .before .before .before .before .pre, record { there = omega (arith, n .object-count .ensures, i .if1 .left); class-is = w .object-word .ensures })
+
 returns-2 : tie.Need-returns-2
 returns-2 c =
     let k = c .before .before in
     let w = k .before .before in
     let i = w .before .before .before in
-    λ values. leaves-as (object-there _ _ values _ _ _ _ _ _ (i .before .object-count .ensures) (i .if1 .left) (w .object-word .ensures)) (k .send-to .ensures values)
+    λ values. leaves-as (object-there _ _ values _ _ _ _ _ _ (i .before .object-count .ensures) (i .if1 .left) (w .object-word .ensures)) (k .send-to-object .ensures values)
 
 pub send-object-spec : {M : Type 1} → statement M
 send-object-spec =
@@ -30,6 +38,6 @@ send-object-spec =
     (λ c. search needs)
     (λ c. search needs)
     (λ c κs. search needs)
-    (λ c κs. search needs)
+    send-to-object-requires
     (λ c. search needs)
     returns-2)

@@ -1,9 +1,10 @@
--- `clear` meets its contract: the notes by their marks, and then the marks and the other words.
+-- `clear` meets its contract: the words before the marks, or the notes by their marks and then the marks too.
 use borrow.Author.Needs.{needs}
 use Prim.Native.Nat.{ℕ}
-use mathlib.Core.Path.{ap, _∙_}
+use mathlib.Core.Path.{sym, ap, _∙_}
 use mathlib.Core.List.{List, _++_}
 use lib.ListN.{drop, replicate}
+use borrow.Author.Tests.{eq-eqb, ne-eqb}
 use Rattle.state.specs.Row.{freed}
 use Rattle.undo.proofs.clear.Statement.{statement}
 use Rattle.undo.proofs.clear.Tie as tie
@@ -12,7 +13,27 @@ returns : tie.Need-returns
 unfolding freed
 returns c =
     let h = c .before .before in
-    h .clear-head .ensures ∙ ap (λ (l : List ℕ). replicate 216 0 ++ drop 216 l) (h .before .before .before .before .clear-notes .ensures)
+    let i = h .before .before in
+    rw (eq-eqb _ 0 (sym (i .before .get .ensures) ∙ i .if1 .taken)) (h .clear-first .ensures)
+
+returns-2 : tie.Need-returns-2
+unfolding freed
+returns-2 c =
+    let h = c .before .before in
+    let m = h .before .before .before .before in
+    let i = m .before .before in
+    rw (ne-eqb _ 0 (λ e. i .if1 .left (i .before .get .ensures ∙ e)))
+    (h .clear-first2 .ensures ∙ ap (λ (l : List ℕ). replicate 216 0 ++ drop 216 l) (m .clear-marked .ensures))
 
 pub clear-spec : {M : Type 1} → statement M
-clear-spec = tie.close (tie.spec (λ c κs. search needs) (λ c κs. search needs) (λ c. search needs) returns)
+clear-spec =
+    tie.close
+    (tie.spec
+    (λ c κs. search needs)
+    (λ c κs. search needs)
+    (λ c. search needs)
+    returns
+    (λ c κs. search needs)
+    (λ c κs. search needs)
+    (λ c. search needs)
+    returns-2)

@@ -11,7 +11,7 @@ returns c =
     let p = s .before in
     let o = p .before in
     body-there _ _ _ _ _ _ (o .before .find .ensures) (o .origin-at .ensures) _ (p .place-in .ensures)
-    _ (c .body-word .ensures) (omega (arith, s .shown-count .ensures))
+    _ _ (c .body-of .ensures _) (omega (arith, s .shown-count .ensures))
 
 returns-2 : tie.Need-returns-2
 returns-2 c =
@@ -30,6 +30,5 @@ body-in-spec =
     (λ c κs. search needs)
     (λ c κs. search needs)
     (λ c κs. search needs)
-    (λ c. search needs)
     returns
     returns-2)

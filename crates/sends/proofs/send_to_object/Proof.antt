@@ -1,0 +1,44 @@
+-- `send_to_object` meets its contract: as `send_to` does.
+use borrow.Author.Needs.{needs}
+use mathlib.Core.Path.{refl}
+use Rattle.slots.specs.Phases.{leaves-as}
+use Rattle.sends.specs.Sent.{sent-refused, sent-there, few, to-object}
+use Rattle.sends.proofs.send_to_object.Statement.{statement}
+use Rattle.sends.proofs.send_to_object.Tie as tie
+
+returns : tie.Need-returns
+returns c = λ values. leaves-as (sent-refused _ _ values _ _ _ _ _ _ _ (c .before .method-refusal .ensures) (c .if1 .taken)) (record { says = refl; words-are = refl; values-are = refl })
+
+grant-object-requires : tie.Need-grant-object-requires
+grant-object-requires c κs =
+    let w = c .before in
+    let i = w .before .before .before in
+    let m = i .before in
+    let s = m .before .before .before .before .before in
+    let k = few _ _ _ _ (m .method-refusal .ensures) (i .if1 .left) in
+    (s .pre .0, to-object _ _ _ _ _ (s .pre .1) k _ (w .wanted-of .ensures))
+
+returns-2 : tie.Need-returns-2
+returns-2 c =
+    let g = c .before .before in
+    let w = g .before .before in
+    let i = w .before .before .before in
+    λ values. leaves-as (sent-there _ _ values _ _ _ _ _ _ _ (i .before .method-refusal .ensures) (i .if1 .left) _ (w .wanted-of .ensures)) (g .grant-object .ensures values)
+
+pub send-to-object-spec : {M : Type 1} → statement M
+send-to-object-spec =
+    tie.close
+    (tie.spec
+    (λ c. search needs)
+    (λ c. search needs)
+    (λ c. search needs)
+    (λ c κs. search needs)
+    (λ c. search needs)
+    returns
+    (λ c. search needs)
+    (λ c. search needs)
+    (λ c. search needs)
+    (λ c κs. search needs)
+    grant-object-requires
+    (λ c. search needs)
+    returns-2)
