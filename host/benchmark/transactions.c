@@ -11,60 +11,39 @@
 #include <time.h>
 #include <unistd.h>
 
-enum { MACHINES = 4, SLOTS = 8, CALLS = MACHINES * SLOTS, ROUNDS = 60, TIMES = 2000 };
+/* Several machines, so that a look at the clock counts for little; all that they touch fits the processor's first cache. */
+enum { MACHINES = 6, SLOTS = 8, CALLS = MACHINES * SLOTS, ROUNDS = 40, TIMES = 1000 };
 
 static const char text[] = "class lane\nmethod shot\nend\nmethod plot\nend\nobject lane1 lane\n";
 static const size_t length = sizeof text - 1;
 static uint32_t states[MACHINES][CISHMOLAQ_STATE_WORDS], values[1];
 static pthread_mutex_t mutex = PTHREAD_MUTEX_INITIALIZER;
-static int threads;
 
-static void must(uint32_t answer, uint32_t wanted) {
+static inline void must(uint32_t answer, uint32_t wanted) {
     if (answer != wanted) {
         fprintf(stderr, "a call answered %u, not %u\n", answer, wanted);
         exit(1);
     }
 }
 
-static void enter(void) {
-    if (threads)
-        pthread_mutex_lock(&mutex);
-}
-
-static void leave(void) {
-    if (threads)
-        pthread_mutex_unlock(&mutex);
-}
-
 #define LENT (const uint8_t *)text, length, states[machine], CISHMOLAQ_STATE_WORDS, values, 0
 
-static void begin(int machine, uint32_t slot) {
-    uint32_t detail;
-    enter();
-    must(cishmolaq_begin(LENT, slot, &detail), 0);
-    leave();
-}
+/* A call on a slot of a machine with what it must answer: alone, and between the lock and the unlock of the mutex. */
+#define CALL(name, call, answer)                                                                                         \
+    static inline void name(int machine, uint32_t slot) {                                                                \
+        uint32_t detail;                                                                                                 \
+        must(call, answer);                                                                                              \
+    }                                                                                                                    \
+    static inline void locked_##name(int machine, uint32_t slot) {                                                       \
+        pthread_mutex_lock(&mutex);                                                                                      \
+        name(machine, slot);                                                                                             \
+        pthread_mutex_unlock(&mutex);                                                                                    \
+    }
 
-static void send(int machine, uint32_t slot) {
-    uint32_t detail;
-    enter();
-    must(cishmolaq_send(LENT, slot, 0, 0, 1, 3, &detail), 0);
-    leave();
-}
-
-static void step(int machine, uint32_t slot) {
-    uint32_t detail;
-    enter();
-    must(cishmolaq_step(LENT, slot, &detail), 2);
-    leave();
-}
-
-static void commit(int machine, uint32_t slot) {
-    uint32_t detail;
-    enter();
-    must(cishmolaq_commit(LENT, slot, &detail), 0);
-    leave();
-}
+CALL(begin, cishmolaq_begin(LENT, slot, &detail), 0)
+CALL(send, cishmolaq_send(LENT, slot, CISHMOLAQ_OBJECT, 0, 1, 3, &detail), 0)
+CALL(step, cishmolaq_step(LENT, slot, &detail), 2)
+CALL(commit, cishmolaq_commit(LENT, slot, &detail), 0)
 
 /* A second thread that does nothing: with it the C library's mutex does its whole work. */
 static void *wait_for_ever(void *nothing) {
@@ -91,37 +70,44 @@ static double now(void) {
 
 static double least(double a, double b) { return a < b ? a : b; }
 
+/* Prints the times of calls. */
+#define MEASURE(begin, send, step, commit)                                                                               \
+    do {                                                                                                                 \
+        double sent = 1e18, committed = 1e18, whole = 1e18, other = 0;                                                   \
+        for (int round = 0; round < ROUNDS; round++) {                                                                   \
+            double sends = 0, commits = 0;                                                                               \
+            for (int k = 0; k < TIMES; k++) {                                                                            \
+                ALL(begin, other);                                                                                       \
+                ALL(send, sends);                                                                                        \
+                ALL(step, other);                                                                                        \
+                ALL(commit, commits);                                                                                    \
+            }                                                                                                            \
+            sent = least(sent, sends / TIMES / CALLS);                                                                   \
+            committed = least(committed, commits / TIMES / CALLS);                                                       \
+            double from = now();                                                                                         \
+            for (int k = 0; k < TIMES * CALLS; k++) {                                                                    \
+                begin(0, 0);                                                                                             \
+                send(0, 0);                                                                                              \
+                step(0, 0);                                                                                              \
+                commit(0, 0);                                                                                            \
+            }                                                                                                            \
+            whole = least(whole, (now() - from) / TIMES / CALLS);                                                        \
+        }                                                                                                                \
+        printf("%.1f %.1f %.1f\n", sent, committed, whole);                                                              \
+    } while (0)
+
 int main(int count, char **words) {
-    threads = count > 1 && strcmp(words[1], "threads") == 0;
-    pthread_t thread;
-    if (threads && pthread_create(&thread, NULL, wait_for_ever, NULL) != 0)
-        return 1;
-    double sent = 1e18, committed = 1e18, whole = 1e18, other = 0;
     for (int machine = 0; machine < MACHINES; machine++) {
         size_t line;
         must(cishmolaq_start((const uint8_t *)text, length, values, 0, states[machine], CISHMOLAQ_STATE_WORDS, &line), 0);
     }
-    for (int round = 0; round < ROUNDS; round++) {
-        double sends = 0, commits = 0;
-        for (int k = 0; k < TIMES; k++) {
-            ALL(begin, other);
-            ALL(send, sends);
-            ALL(step, other);
-            ALL(commit, commits);
-        }
-        sent = least(sent, sends / TIMES / CALLS);
-        committed = least(committed, commits / TIMES / CALLS);
+    if (count > 1 && strcmp(words[1], "threads") == 0) {
+        pthread_t thread;
+        if (pthread_create(&thread, NULL, wait_for_ever, NULL) != 0)
+            return 1;
+        MEASURE(locked_begin, locked_send, locked_step, locked_commit);
+    } else {
+        MEASURE(begin, send, step, commit);
     }
-    for (int round = 0; round < ROUNDS; round++) {
-        double from = now();
-        for (int k = 0; k < TIMES * CALLS; k++) {
-            begin(0, 0);
-            send(0, 0);
-            step(0, 0);
-            commit(0, 0);
-        }
-        whole = least(whole, (now() - from) / TIMES / CALLS);
-    }
-    printf("%.1f %.1f %.1f\n", sent, committed, whole);
     return 0;
 }

@@ -50,15 +50,11 @@ pub fn conflicts(tables: &[u32], class: u32, place: u32) -> u32
     !words::get(tables, 8 + (class as usize * 232 + (200 + place as usize)))
 }
 
-// The class is in the send's domain; no mask has a class past its 32.
+// The class is in the send's domain.
 fn in_domain(tables: &[u32], wanted: Wanted, class: u32) -> bool
     ensures { λ r. ⌜ r ≡ inDomain (now (tables .entry)) (asked wanted) class ⌝ }
 {
-    if class < 32 {
-        (words::class_word(tables, wanted.number, 5) >> class) % 2 == 1
-    } else {
-        false
-    }
+    turns::visit::has_bit(words::class_word(tables, wanted.number, 5), class)
 }
 
 // The place of the method in a class that a send to a domain locks; 32 where it does not lock the class.

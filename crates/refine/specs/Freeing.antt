@@ -9,7 +9,7 @@ use mathlib.Core.List.{List, _++_}
 use lib.ListN.{length, getD, drop, set, replicate, length-append, length-drop, length-replicate, getD-replicate, List·getD-append}
 use lib.Seq.{getD-drop, getD-append-add, ext-getD}
 use lib.Dec.{eqb, ltb}
-use borrow.Author.Tests.{le-ltb, eqb-true}
+use borrow.Author.Tests.{lt-ltb, le-ltb, eqb-true}
 use Rattle.model.specs.Undo.{Undo, restored, putBack}
 use Rattle.words.specs.View.{bit}
 use Rattle.words.specs.Bits.{bit-zero}
@@ -34,14 +34,37 @@ clean-alike row row′ set alike clean =
 
 -- ---- the row
 
-module _ (row : List ℕ) (size : length row ≡ 2264) where
+-- The notes that were made are 0.
+module _ (row : List ℕ) where
   -- Which words are made 0 among the notes.
   abbrev made : Undo
   made i = cond (ltb i 216) none (noteIf (bit (getD row (152 + (i - 216) / 32) 0) ((i - 216) % 32)) 0)
 
-  unnoted-long : length (unnoted row) ≡ 2264
+  pub unnoted-length : length (unnoted row) ≡ length row
   unfolding unnoted
-  unnoted-long = back-length made row ∙ size
+  unnoted-length = back-length made row
+
+  pub unnoted-before : (i : ℕ) → i < 216 → i < length row → getD (unnoted row) i 0 ≡ getD row i 0
+  unfolding unnoted
+  unnoted-before i h l =
+      back-at made row i l
+      ∙ ap (λ (b : Bool). restored (cond b none (noteIf (bit (getD row (152 + (i - 216) / 32) 0) ((i - 216) % 32)) 0)) (getD row i 0)) (lt-ltb i 216 h)
+
+  -- Value k's note, by its mark.
+  pub unnoted-at : (k : ℕ) → 216 + k < length row → (b : Bool) → bit (getD row (152 + k / 32) 0) (k % 32) ≡ b
+      → getD (unnoted row) (216 + k) 0 ≡ restored (noteIf b 0) (getD row (216 + k) 0)
+  unfolding unnoted
+  unnoted-at k l b e =
+      let q : 216 + k - 216 ≡ k = omega arith in
+      back-at made row (216 + k) l
+      ∙ ap (λ (b : Bool). restored (cond b none (noteIf (bit (getD row (152 + (216 + k - 216) / 32) 0) ((216 + k - 216) % 32)) 0)) (getD row (216 + k) 0))
+      (le-ltb (216 + k) 216 (omega arith))
+      ∙ ap (λ (j : ℕ). restored (noteIf (bit (getD row (152 + j / 32) 0) (j % 32)) 0) (getD row (216 + k) 0)) q
+      ∙ ap (λ (b : Bool). restored (noteIf b 0) (getD row (216 + k) 0)) e
+
+module _ (row : List ℕ) (size : length row ≡ 2264) where
+  unnoted-long : length (unnoted row) ≡ 2264
+  unnoted-long = unnoted-length row ∙ size
 
   -- The first n words are 0, and the rest is that of a list.
   module _ (n : ℕ) (few : n ≤ 2264) (rest : List ℕ) (long : length rest ≡ 2264) where
@@ -78,18 +101,11 @@ module _ (row : List ℕ) (size : length row ≡ 2264) where
 
   module _ (clean : Clean row) where
     note-freed : (k : ℕ) → k < 2048 → getD (unnoted row) (216 + k) 0 ≡ 0
-    unfolding unnoted
-    note-freed k h =
-        let e : 216 + k - 216 ≡ k = omega arith in
-        back-at made row (216 + k) (omega arith)
-        ∙ ap (λ (b : Bool). restored (cond b none (noteIf (bit (getD row (152 + (216 + k - 216) / 32) 0) ((216 + k - 216) % 32)) 0)) (getD row (216 + k) 0))
-        (le-ltb (216 + k) 216 (omega arith))
-        ∙ ap (λ (j : ℕ). restored (noteIf (bit (getD row (152 + j / 32) 0) (j % 32)) 0) (getD row (216 + k) 0)) e
-        ∙ go (bit (getD row (152 + k / 32) 0) (k % 32)) refl
+    note-freed k h = go (bit (getD row (152 + k / 32) 0) (k % 32)) refl
       where
-        go : (b : Bool) → bit (getD row (152 + k / 32) 0) (k % 32) ≡ b → restored (noteIf b 0) (getD row (216 + k) 0) ≡ 0
-        go true e = refl
-        go false e = clean .notes k h e
+        go : (b : Bool) → bit (getD row (152 + k / 32) 0) (k % 32) ≡ b → getD (unnoted row) (216 + k) 0 ≡ 0
+        go true e = unnoted-at row k (omega arith) true e
+        go false e = unnoted-at row k (omega arith) false e ∙ clean .notes k h e
 
     -- Where no value was set there is no mark, and so no note.
     unset : getD row 9 0 ≡ 0 → (i : ℕ) → 152 ≤ i → i < 2264 → getD row i 0 ≡ 0

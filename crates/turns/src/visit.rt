@@ -6,7 +6,7 @@ ghost use Rattle.words.specs.View.{bit};
 ghost use Rattle.state.specs.Turn.{inTarget, firstFrom, objectFrom};
 
 // The mask has the bit; no mask has one past its 32.
-fn has_bit(mask: u32, place: u32) -> bool
+pub fn has_bit(mask: u32, place: u32) -> bool
     ensures { λ r. ⌜ r ≡ bit mask place ⌝ }
 {
     if place < 32 {

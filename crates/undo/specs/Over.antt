@@ -10,7 +10,7 @@ use lib.ListN.{length, getD, take, drop, set, replicate, length-set, length-repl
 use lib.Pow.{shl-exact}
 use lib.Bits.{bitOr}
 use borrow.Author.Tests.{lt-ltb, le-ltb, eq-eqb, ne-eqb}
-use Rattle.model.specs.Undo.{Undo, restored, putBack}
+use Rattle.model.specs.Undo.{restored}
 use Rattle.words.specs.View.{bit}
 use Rattle.state.specs.Row.{noteAt, notedRow}
 
@@ -81,19 +81,6 @@ module _ (made old : List ℕ) (e : length made ≡ length old) (now : List ℕ)
   -- A turn that leaves it as it is.
   pub over-keep : getD made i 0 ≡ getD old i 0 → now ≡ over (i + 1) made old
   over-keep w = q ∙ keep-next i made old e h w ∙ ap (λ (k : ℕ). over k made old) (sym (add-one i))
-
--- ---- what is put back
-
-pub put-back-length : (u : Undo) (l : List ℕ) → length (putBack u l) ≡ length l
-unfolding putBack
-put-back-length u [] = refl
-put-back-length u (v ∷ vs) = ap suc (put-back-length (λ k. u (suc k)) vs)
-
-pub put-back-at : (u : Undo) (l : List ℕ) (k : ℕ) → k < length l → getD (putBack u l) k 0 ≡ restored (u k) (getD l k 0)
-unfolding putBack
-put-back-at u [] k h = absurd (not-suc-le-zero h)
-put-back-at u (v ∷ vs) zero h = refl
-put-back-at u (v ∷ vs) (suc k) h = put-back-at (λ j. u (suc j)) vs k (le-of-suc-le-suc h)
 
 -- ---- what a note says
 

@@ -6,7 +6,8 @@ use mathlib.Core.Path.{_≡_, refl, sym, ap, _∙_}
 use lib.ListN.{length}
 use Rattle.state.specs.Row.{unnoted}
 use Rattle.undo.specs.Over.{over, over-length, over-all}
-use Rattle.undo.specs.Freed.{unnoted-length, unnoted-begun, passed-over, one-cleared}
+use Rattle.refine.specs.Freeing.{unnoted-length}
+use Rattle.undo.specs.Freed.{unnoted-begun, passed-over, one-cleared}
 use Rattle.undo.proofs.clear_marked.Statement.{statement}
 use Rattle.undo.proofs.clear_marked.Tie as tie
 

@@ -5,7 +5,8 @@ use native.Mathlib.Omega.{arith}
 use mathlib.Core.Path.{_≡_, refl, sym, ap, _∙_}
 use mathlib.Core.List.{List}
 use lib.ListN.{length, getD, length-set}
-use Rattle.undo.specs.Over.{over, over-all, over-at, over-put, put-back-length, put-back-at}
+use Rattle.theory.specs.UndoLaws.{back-length, back-at}
+use Rattle.undo.specs.Over.{over, over-all, over-at, over-put}
 use Rattle.model.specs.Undo.{restored, putBack}
 use Rattle.state.specs.Row.{noteAt}
 use Rattle.undo.proofs.put_back.Statement.{statement}
@@ -48,11 +49,11 @@ loop-again c =
     let O = a .values .now in
     let T = putBack (noteAt (a .row .now)) O in
     let h : L .i < length O = omega (arith, L .inv .1) in
-    let o : getD (L .values) (L .i) 0 ≡ getD O (L .i) 0 = ap (λ (l : List ℕ). getD l (L .i) 0) (L .inv .2) ∙ over-at (L .i) T O (put-back-length (noteAt (a .row .now)) O) in
-    let v : c .noted-or .result ≡ getD T (L .i) 0 = c .noted-or .ensures ∙ ap (restored (noteAt (a .row .now) (L .i))) o ∙ sym (put-back-at (noteAt (a .row .now)) O (L .i) h) in (
+    let o : getD (L .values) (L .i) 0 ≡ getD O (L .i) 0 = ap (λ (l : List ℕ). getD l (L .i) 0) (L .inv .2) ∙ over-at (L .i) T O (back-length (noteAt (a .row .now)) O) in
+    let v : c .noted-or .result ≡ getD T (L .i) 0 = c .noted-or .ensures ∙ ap (restored (noteAt (a .row .now) (L .i))) o ∙ sym (back-at (noteAt (a .row .now)) O (L .i) h) in (
       omega arith,
       length-set (L .values) (L .i) (c .noted-or .result) ∙ L .inv .1,
-      over-put T O (put-back-length (noteAt (a .row .now)) O) (L .values) (L .i) h (L .inv .2) (c .noted-or .result) v,
+      over-put T O (back-length (noteAt (a .row .now)) O) (L .values) (L .i) h (L .inv .2) (c .noted-or .result) v,
     )
 
 same-length : tie.Need-same-length Inv-loop μ-loop
@@ -65,7 +66,7 @@ returns c =
     let O = a .values .now in
     let T = putBack (noteAt (a .row .now)) O in
     let e : L .i ≡ length O = omega (arith, L .inv .1) in
-    L .inv .2 ∙ ap (λ (k : ℕ). over k T O) e ∙ over-all T O (put-back-length (noteAt (a .row .now)) O)
+    L .inv .2 ∙ ap (λ (k : ℕ). over k T O) e ∙ over-all T O (back-length (noteAt (a .row .now)) O)
 
 pub put-back-spec : {M : Type 1} → statement M
 put-back-spec =
