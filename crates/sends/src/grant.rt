@@ -5,13 +5,14 @@ use super::clash::object_clashing;
 use locks::First;
 use locks::Wanted;
 use slots::Outcome;
-ghost use Prim.Native.Nat.{ℕ, _<_};
+ghost use Prim.Native.Nat.{ℕ, _≤_, _<_};
 ghost use mathlib.Core.Path.{_≡_};
 ghost use mathlib.Core.List.{List};
+ghost use lib.ListN.{length};
 ghost use Rattle.model.specs.Base.{least};
 ghost use Rattle.words.specs.View.{classCount};
 ghost use Rattle.state.specs.Request.{domainLock, locked, begunRow};
-ghost use Rattle.state.specs.Calls.{tablesOf, rowOf, withRow, inTheWay, grantedOr};
+ghost use Rattle.state.specs.Calls.{stateWords, tablesOf, rowOf, withRow, inTheWay, grantedOr};
 ghost use Rattle.locks.specs.Asked.{asked};
 ghost use Rattle.locks.specs.Begun.{saidFirst, firstOf};
 ghost use Rattle.slots.specs.Told.{Leaves};
@@ -68,16 +69,25 @@ fn start_message(text: &[u8], state: &mut [u32], slot: u32, wanted: Wanted)
     locks::enter(&mut state[start..end], wanted, first);
 }
 
-// Where the message of a send to an object starts. Where the object's class writes the method, its body is at its place.
-fn first_of_object(text: &[u8], tables: &[u32], wanted: Wanted) -> First
-    requires { ⌜ ToObject (now tables) (asked wanted) ⌝ }
-    ensures { λ r. ⌜ saidFirst r ≡ firstOf (now (text .entry)) (now (tables .entry)) (asked wanted) ⌝ }
+// Where the message of a send to an object starts. Where the object's class writes the method, its body is at its place; else
+// a copy of the send is handed on, so that the send itself is never in memory.
+fn first_of_object(text: &[u8], state: &[u32], wanted: Wanted) -> First
+    requires { ⌜ (stateWords ≤ length (now state)) × ToObject (tablesOf (now state)) (asked wanted) ⌝ }
+    ensures { λ r. ⌜ saidFirst r ≡ firstOf (now (text .entry)) (tablesOf (now (state .entry))) (asked wanted) ⌝ }
 {
-    if turns::body::writes_at(tables, wanted.class, wanted.place, wanted.name) {
-        let body = turns::body::body_of(tables, wanted.class, wanted.place);
+    if turns::body::writes_at(&state[0..8072], wanted.class, wanted.place, wanted.name) {
+        let body = turns::body::body_of(&state[0..8072], wanted.class, wanted.place);
         return First::On(wanted.number, body.first, body.end);
     }
-    locks::first_object(text, tables, wanted)
+    let copy = Wanted {
+        kind: wanted.kind,
+        number: wanted.number,
+        class: wanted.class,
+        place: wanted.place,
+        name: wanted.name,
+        argument: wanted.argument,
+    };
+    locks::first_object(text, &state[0..8072], copy)
 }
 
 // The locks of a send to an object, and its message at its start, in its slot's row.
@@ -118,7 +128,7 @@ pub fn grant_object(text: &[u8], state: &mut [u32], slot: u32, wanted: Wanted) -
     if holders != 0 {
         return Outcome::Held(u32::trailing_zeros(holders));
     }
-    let first = first_of_object(text, &state[0..8072], wanted);
+    let first = first_of_object(text, state, wanted);
     take_object(text, state, slot, wanted, first);
     Outcome::Done
 }

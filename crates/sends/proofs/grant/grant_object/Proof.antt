@@ -14,7 +14,7 @@ returns c =
 returns-2 : tie.Need-returns-2
 returns-2 c =
     let t = c .before .before in
-    let i = t .before .before .before .before .before in
+    let i = t .before .before .before .before in
     let m = i .before in
     let w = m .before .before .before .before .pre .0 in
     λ values. leaves-as (free-way _ _ _ w _ values _ (m .object-clashing .ensures) (i .if1 .left))
@@ -27,9 +27,6 @@ grant-object-spec =
     (λ c κs. search needs)
     (λ c. search needs)
     returns
-    (λ c. search needs)
-    (λ c. search needs)
-    (λ c. search needs)
     (λ c κs. search needs)
     (λ c κs. search needs)
     (λ c. search needs)
