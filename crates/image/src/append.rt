@@ -7,7 +7,7 @@ ghost use Rattle.model.specs.Tables.{digits};
 ghost use Rattle.image.specs.Append.{Appended};
 
 // A byte, or nothing past the end.
-pub fn put_byte(out: &mut [u8], at: usize, byte: u8) -> usize
+pub(crate) fn put_byte(out: &mut [u8], at: usize, byte: u8) -> usize
     requires { ⌜ at + 1 < 2 ^ 64 ⌝ }
     ensures { λ r. ⌜ Appended (byte ∷ []) (now (out .entry)) at r (now (out .exit)) ⌝ }
 {
@@ -18,7 +18,7 @@ pub fn put_byte(out: &mut [u8], at: usize, byte: u8) -> usize
 }
 
 // A u32, its lowest byte first.
-pub fn put_u32(out: &mut [u8], at: usize, number: u32) -> usize
+pub(crate) fn put_u32(out: &mut [u8], at: usize, number: u32) -> usize
     requires { ⌜ at + 4 < 2 ^ 64 ⌝ }
     ensures { λ r. ⌜ Appended (u32Bytes number) (now (out .entry)) at r (now (out .exit)) ⌝ }
 {
@@ -29,7 +29,7 @@ pub fn put_u32(out: &mut [u8], at: usize, number: u32) -> usize
 }
 
 // Two of them.
-pub fn put_pair(out: &mut [u8], at: usize, first: u32, second: u32) -> usize
+pub(crate) fn put_pair(out: &mut [u8], at: usize, first: u32, second: u32) -> usize
     requires { ⌜ at + 8 < 2 ^ 64 ⌝ }
     ensures { λ r. ⌜ Appended (u32Bytes first ++ u32Bytes second) (now (out .entry)) at r (now (out .exit)) ⌝ }
 {
@@ -38,7 +38,7 @@ pub fn put_pair(out: &mut [u8], at: usize, first: u32, second: u32) -> usize
 }
 
 // Bytes in their order.
-pub fn put_bytes(out: &mut [u8], at: usize, bytes: &[u8]) -> usize
+pub(crate) fn put_bytes(out: &mut [u8], at: usize, bytes: &[u8]) -> usize
     requires { ⌜ at + length (now bytes) < 2 ^ 64 ⌝ }
     ensures { λ r. ⌜ Appended (now (bytes .entry)) (now (out .entry)) at r (now (out .exit)) ⌝ }
 {
@@ -52,7 +52,7 @@ pub fn put_bytes(out: &mut [u8], at: usize, bytes: &[u8]) -> usize
 }
 
 // A number in decimal digits, of which there are at most `most`.
-pub fn put_digits(out: &mut [u8], at: usize, most: u32, number: u32) -> usize
+pub(crate) fn put_digits(out: &mut [u8], at: usize, most: u32, number: u32) -> usize
     requires { ⌜ at + most < 2 ^ 64 ⌝ }
     ensures { λ r. ⌜ Appended (digits most number) (now (out .entry)) at r (now (out .exit)) ⌝ }
 {

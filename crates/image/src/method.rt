@@ -169,7 +169,13 @@ fn put_methods(
 }
 
 // That part of each method of each class.
-pub fn put_classes(text: &[u8], tables: &[u32], part: Part, out: &mut [u8], at: usize) -> usize
+pub(crate) fn put_classes(
+    text: &[u8],
+    tables: &[u32],
+    part: Part,
+    out: &mut [u8],
+    at: usize,
+) -> usize
     requires { ⌜ at + 66560 < 2 ^ 64 ⌝ }
     ensures { λ r. ⌜ Appended (eachMethod (now (tables .entry)) (cellFrom (now (text .entry)) (now (tables .entry)) part)) (now (out .entry)) at r (now (out .exit)) ⌝ }
 {

@@ -30,7 +30,13 @@ fn value_of(word: &[u8]) -> u32
 }
 
 // The values of an object, absent ones 0.
-pub fn put_values(text: &[u8], tables: &[u32], object: u32, values: &mut [u32], at: usize) -> usize
+pub(crate) fn put_values(
+    text: &[u8],
+    tables: &[u32],
+    object: u32,
+    values: &mut [u32],
+    at: usize,
+) -> usize
     requires { ⌜ at + 32 < 2 ^ 64 ⌝ }
     ensures { λ r. ⌜ Appended (valuesFrom (now (text .entry)) (now (tables .entry)) object) (now (values .entry)) at r (now (values .exit)) ⌝ }
 {

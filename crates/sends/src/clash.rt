@@ -59,7 +59,7 @@ fn other_holders(state: &[u32], slot: u32, word: usize, class: u32, methods: u32
 }
 
 // The slots in the way of a send to an object: two words of each row. Mostly no slot holds a conflict, and so none is asked.
-pub fn object_clashing(text: &[u8], state: &[u32], slot: u32, wanted: Wanted) -> u32
+pub(crate) fn object_clashing(text: &[u8], state: &[u32], slot: u32, wanted: Wanted) -> u32
     requires { ⌜ Within (now state) slot × (wanted .kind ≡ 0) ⌝ }
     ensures { λ r. ⌜ r ≡ gathered (inTheWay (now (text .entry)) (now (state .entry)) slot (asked wanted)) 8 ⌝ }
 {
@@ -111,7 +111,7 @@ fn domain_clashing(text: &[u8], state: &[u32], slot: u32, wanted: Wanted) -> u32
 }
 
 // The slots in the way of a send to a class's own objects or to a domain.
-pub fn clashing(text: &[u8], state: &[u32], slot: u32, wanted: Wanted) -> u32
+pub(crate) fn clashing(text: &[u8], state: &[u32], slot: u32, wanted: Wanted) -> u32
     requires { ⌜ Within (now state) slot × (0 < wanted .kind) ⌝ }
     ensures { λ r. ⌜ r ≡ gathered (inTheWay (now (text .entry)) (now (state .entry)) slot (asked wanted)) 8 ⌝ }
 {

@@ -104,7 +104,7 @@ fn take_object(text: &[u8], state: &mut [u32], slot: u32, wanted: Wanted, first:
 }
 
 // 40 with the lowest slot in the way of a send to a class or a domain; else it has its locks and its message is at its start.
-pub fn grant(text: &[u8], state: &mut [u32], slot: u32, wanted: Wanted) -> Outcome
+pub(crate) fn grant(text: &[u8], state: &mut [u32], slot: u32, wanted: Wanted) -> Outcome
     requires { ⌜ Within (now state) slot × (wanted .place < 32) × (0 < wanted .kind) ⌝ }
     ensures { λ r. ⌜ ((values : List ℕ) → Leaves (grantedOr (now (text .entry)) (now (state .entry)) values slot (asked wanted)
         (least (inTheWay (now (text .entry)) (now (state .entry)) slot (asked wanted)) 8)) r (now (state .exit)) values) ⌝ }
@@ -119,7 +119,7 @@ pub fn grant(text: &[u8], state: &mut [u32], slot: u32, wanted: Wanted) -> Outco
 }
 
 // The same for a send to an object, without a look at any other.
-pub fn grant_object(text: &[u8], state: &mut [u32], slot: u32, wanted: Wanted) -> Outcome
+pub(crate) fn grant_object(text: &[u8], state: &mut [u32], slot: u32, wanted: Wanted) -> Outcome
     requires { ⌜ Within (now state) slot × ToObject (tablesOf (now state)) (asked wanted) ⌝ }
     ensures { λ r. ⌜ ((values : List ℕ) → Leaves (grantedOr (now (text .entry)) (now (state .entry)) values slot (asked wanted)
         (least (inTheWay (now (text .entry)) (now (state .entry)) slot (asked wanted)) 8)) r (now (state .exit)) values) ⌝ }

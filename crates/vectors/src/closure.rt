@@ -212,7 +212,7 @@ fn marked_vector(
 }
 
 // The transitive vector of the method at a place of a class; of no method where there is none.
-pub fn vector_of(
+pub(crate) fn vector_of(
     text: &[u8],
     tables: &[u32],
     class: u32,

@@ -55,7 +55,13 @@ fn keep(bodies: &mut [u32], node: u32, direct: Direct)
 }
 
 // What a method does by itself, found where it is not kept yet.
-pub fn direct_of(text: &[u8], tables: &[u32], class: u32, node: u32, bodies: &mut [u32]) -> Direct
+pub(crate) fn direct_of(
+    text: &[u8],
+    tables: &[u32],
+    class: u32,
+    node: u32,
+    bodies: &mut [u32],
+) -> Direct
     requires { ⌜ Bodies (now text) (now tables) class (now bodies) ⌝ }
     ensures { λ r. ⌜ Right (now (text .entry)) (now (tables .entry)) class node r ⌝ }
     ensures { λ r. ⌜ Bodies (now (text .entry)) (now (tables .entry)) class (now (bodies .exit)) ⌝ }
@@ -70,7 +76,7 @@ pub fn direct_of(text: &[u8], tables: &[u32], class: u32, node: u32, bodies: &mu
 }
 
 // The number of what statement i of a run calls on an object of the class, found where it is not kept yet.
-pub fn callee_of(
+pub(crate) fn callee_of(
     text: &[u8],
     tables: &[u32],
     class: u32,
