@@ -1,13 +1,13 @@
 -- The bits that a send sets in its row, and that they are the rules' locks.
 use Prim.Native.Nat.{ℕ, _+_, _^_, _<_}
-use mathlib.Core.Path.{_≡_, refl, sym, ap, _∙_}
+use mathlib.Core.Path.{_≡_, refl, ap}
 use mathlib.Core.Bool.{Bool, true, false, cond}
 use mathlib.Core.List.{List}
-use lib.ListN.{getD, set}
-use lib.Seq.{set-getD}
-use lib.Bits.{bitOr, or-zero-r}
+use native.Mathlib.Omega.{arith}
+use lib.Pow.{pow-pos}
 use lib.Dec.{eqb, ltb}
-use borrow.Author.Tests.{lt-ltb}
+use borrow.Author.Tests.{lt-ltb, eq-eqb}
+use Rattle.state.specs.Row.{withBits}
 use Rattle.state.specs.Request.{Wanted, placeIn, concerns, withLock, domainLock, locked}
 use Rattle.locks.specs.Clashing.{domainPlace, concerned}
 
@@ -20,10 +20,6 @@ unfoldable pub domainBit : List ℕ → List ℕ → Wanted → ℕ → ℕ
 unfolding concerns placeIn
 domainBit text tables q d = cond (concerns text tables q d) (2 ^ placeIn text tables q d) 0
 
--- The row with those bits added to word i.
-abbrev pub withBits : List ℕ → ℕ → ℕ → List ℕ
-withBits row i bits = set row i (bitOr (getD row i 0) bits)
-
 -- The row with the locks of a send to an object (kind 0) or to a class's own objects.
 unfoldable pub lockedTarget : Wanted → List ℕ → List ℕ
 unfolding placeBit
@@ -31,8 +27,10 @@ lockedTarget q row =
     let bits = placeBit (q .place) in
     cond (eqb (q .kind) 0) (withBits (withBits row (56 + q .number) bits) (120 + q .class) bits) (withBits row (136 + q .class) bits)
 
-no-bits : (row : List ℕ) (i : ℕ) → row ≡ withBits row i 0
-no-bits row i = sym (ap (set row i) (or-zero-r (getD row i 0)) ∙ set-getD row i 0)
+pub object-locked : (q : Wanted) (row : List ℕ) → q .kind ≡ 0
+    → withBits (withBits row (56 + q .number) (placeBit (q .place))) (120 + q .class) (placeBit (q .place)) ≡ lockedTarget q row
+unfolding lockedTarget
+object-locked q row h = rw (eq-eqb (q .kind) 0 h)
 
 pub place-bit : (k : ℕ) → k < 32 → placeBit k ≡ 2 ^ k
 unfolding placeBit
@@ -48,13 +46,22 @@ module _ (text tables : List ℕ) (q : Wanted) (d : ℕ) where
       side false t = refl
 
   -- 01, locks of a domain: "(M, true) on each class in it, M being the method of that name in that class".
-  pub domain-lock : (row : List ℕ) → domainLock text tables q row d ≡ set row (136 + d) (bitOr (getD row (136 + d) 0) (domainBit text tables q d))
-  unfolding domainBit
-  domain-lock row = side (concerns text tables q d)
-    where
-      side : (t : Bool) → cond t (withLock row (136 + d) (placeIn text tables q d)) row ≡ withBits row (136 + d) (cond t (2 ^ placeIn text tables q d) 0)
-      side true = refl
-      side false = no-bits row (136 + d)
+  module _ (row : List ℕ) (bits : ℕ) (e : bits ≡ domainBit text tables q d) where
+    pub domain-lock : (bits ≡ 0 → ⊥) → withBits row (136 + d) bits ≡ domainLock text tables q row d
+    unfolding domainBit
+    domain-lock some = side (concerns text tables q d) e
+      where
+        side : (t : Bool) → bits ≡ cond t (2 ^ placeIn text tables q d) 0 → withBits row (136 + d) bits ≡ cond t (withLock row (136 + d) (placeIn text tables q d)) row
+        side true f = ap (withBits row (136 + d)) f
+        side false f = absurd (some f)
+
+    pub domain-free : bits ≡ 0 → row ≡ domainLock text tables q row d
+    unfolding domainBit
+    domain-free none = side (concerns text tables q d) e
+      where
+        side : (t : Bool) → bits ≡ cond t (2 ^ placeIn text tables q d) 0 → row ≡ cond t (withLock row (136 + d) (placeIn text tables q d)) row
+        side true f = absurd (omega (arith, pow-pos (placeIn text tables q d)))
+        side false f = refl
 
 module _ (text tables : List ℕ) (q : Wanted) (row : List ℕ) (h : q .place < 32) where
   pub locked-object : eqb (q .kind) 0 ≡ true → locked text tables q row ≡ lockedTarget q row

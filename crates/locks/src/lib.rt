@@ -1,9 +1,7 @@
 // A send's locks: which rows hold a lock that is in its way, which bits it sets, and where its message starts. The rules are
 // in crates/state/specs/Request.antt.
-ghost use Prim.Native.Nat.{_+_};
 ghost use mathlib.Core.Path.{_≡_};
-ghost use lib.ListN.{getD, set};
-ghost use lib.Bits.{bitOr};
+ghost use Rattle.state.specs.Row.{withBits};
 ghost use Rattle.state.specs.Request.{inDomain};
 ghost use Rattle.locks.specs.Asked.{asked};
 ghost use Rattle.locks.specs.Clashing.{domainPlace, heldAt, holdsOne, conflictsOf, classClashes, domainClashes};
@@ -104,7 +102,7 @@ pub fn domain_clashes(text: &[u8], tables: &[u32], wanted: Wanted, row: &[u32]) 
 }
 
 // The mask of the method at a place; none past the 32 of a mask.
-fn place_bit(place: u32) -> u32
+pub fn place_bit(place: u32) -> u32
     ensures { λ r. ⌜ r ≡ placeBit place ⌝ }
 {
     if place < 32 { 1u32 << place } else { 0 }
@@ -118,11 +116,13 @@ pub fn domain_bit(text: &[u8], tables: &[u32], wanted: Wanted, class: u32) -> u3
     place_bit(place)
 }
 
-// Lock bits added to a word of the row.
+// Lock bits added to a word of the row, which is marked as one that has locks.
 pub fn add_lock(row: &mut [u32], word: usize, bits: u32)
-    ensures { λ _. ⌜ now (row .exit) ≡ set (now (row .entry)) word (bitOr (getD (now (row .entry)) word 0) bits) ⌝ }
+    ensures { λ _. ⌜ now (row .exit) ≡ withBits (now (row .entry)) word bits ⌝ }
 {
     let held = words::get(row, word);
+    let marks = words::get(row, 10);
+    words::put(row, 10, marks | (1u32 << (word / 8 % 32)));
     words::put(row, word, held | bits);
 }
 

@@ -1,5 +1,5 @@
--- Bits of masks: of an intersection, a complement, a list of tests; and when a mask meets another.
-use Prim.Native.Nat.{ℕ, zero, suc, _+_, _-_, _*_, _/_, _%_, _^_, min, _<_}
+-- Bits of masks: of an intersection, a complement, a mask without one bit, a list of tests; and when a mask meets another.
+use Prim.Native.Nat.{ℕ, zero, suc, _+_, _-_, _*_, _/_, _%_, _^_, min, _≤_, _<_}
 use mathlib.Core.Path.{_≡_, refl, sym, ap, _∙_}
 use mathlib.Core.Logic.{_≢_}
 use mathlib.Core.Bool.{Bool, true, false, not, _&&_, _||_, or-true, true≢false}
@@ -10,7 +10,8 @@ use lib.ListN.{length, getD}
 use lib.Dec.{eqb}
 use lib.Pow.{pow-pos, shr-shr, shl-exact}
 use lib.Bits.{bitAnd, bitOr, and-step, and-shr, and-le-r}
-use borrow.Author.Tests.{eqb-false, ne-eqb, not-true}
+use lib.Count.{under, trailingZeros}
+use borrow.Author.Tests.{eqb-true, eqb-false, eq-eqb, ne-eqb, not-true}
 use Rattle.model.specs.Base.{digit}
 use Rattle.model.specs.Image.{mask}
 use Rattle.words.specs.View.{bit}
@@ -103,6 +104,56 @@ bit-one d k h =
     let e : 1 * 2 ^ d ≡ 2 ^ d = omega arith in
     let q : (1 * 2 ^ d) % 2 ^ 32 ≡ 2 ^ d = shl-exact {a = 1} 1 d 32 (omega arith) (omega arith) ∙ e in
     ap (λ (m : ℕ). bit m k) (sym q) ∙ bit-shifted d k h
+
+-- ---- a mask's lowest bit, and a mask with one bit less
+
+-- The trailing zeros of a mask that is not 0 are the place of a bit.
+pub zeros-bit : (n a : ℕ) → a < 2 ^ n → (a ≡ 0 → ⊥) → (trailingZeros n a < n) × (bit a (trailingZeros n a) ≡ true)
+unfolding trailingZeros
+zeros-bit zero a h ne = absurd (ne (omega arith))
+zeros-bit (suc n) a h ne = go (a % 2) refl (λ z. zeros-bit n (a / 2) (let e : 2 ^ suc n ≡ 2 ^ n * 2 = pow-suc 2 n in omega arith) z)
+  where
+    zeros : ℕ
+    zeros = trailingZeros n (a / 2)
+
+    go : (d : ℕ) → a % 2 ≡ d → ((a / 2 ≡ 0 → ⊥) → (zeros < n) × (bit (a / 2) zeros ≡ true)) → (under d zeros < suc n) × (bit a (under d zeros) ≡ true)
+    go zero e rest = let r = rest (λ z. ne (omega arith)) in (omega (arith, r .0), higher-bit a zeros ∙ r .1)
+    go (suc d) e rest = (omega arith, lowest-bit a ∙ eq-eqb (a % 2) 1 (omega arith))
+
+-- A mask is no less than each of its bits.
+pub bit-fits : (t a : ℕ) → bit a t ≡ true → 2 ^ t ≤ a
+bit-fits zero a e = let odd = eqb-true (a % 2) 1 (sym (lowest-bit a) ∙ e) in omega arith
+bit-fits (suc t) a e =
+    let rest = bit-fits t (a / 2) (sym (higher-bit a t) ∙ e) in
+    let d : 2 ^ suc t ≡ 2 ^ t * 2 = pow-suc 2 t in
+    omega arith
+
+-- One bit taken away: it is gone, and the others are as they were.
+pub less-here : (t a : ℕ) → bit a t ≡ true → bit (a - 2 ^ t) t ≡ false
+less-here zero a e =
+    let odd = eqb-true (a % 2) 1 (sym (lowest-bit a) ∙ e) in
+    lowest-bit (a - 2 ^ 0) ∙ ne-eqb ((a - 2 ^ 0) % 2) 1 (λ z. omega arith)
+less-here (suc t) a e =
+    let d : 2 ^ suc t ≡ 2 ^ t * 2 = pow-suc 2 t in
+    let q : (a - 2 ^ suc t) / 2 ≡ a / 2 - 2 ^ t = omega arith in
+    higher-bit (a - 2 ^ suc t) t ∙ ap (λ (m : ℕ). bit m t) q ∙ less-here t (a / 2) (sym (higher-bit a t) ∙ e)
+
+pub less-else : (t a b : ℕ) → bit a t ≡ true → b ≢ t → bit (a - 2 ^ t) b ≡ bit a b
+less-else zero a zero e ne = absurd (ne refl)
+less-else zero a (suc b) e ne =
+    let odd = eqb-true (a % 2) 1 (sym (lowest-bit a) ∙ e) in
+    let q : (a - 2 ^ 0) / 2 ≡ a / 2 = omega arith in
+    higher-bit (a - 2 ^ 0) b ∙ ap (λ (m : ℕ). bit m b) q ∙ sym (higher-bit a b)
+less-else (suc t) a zero e ne =
+    let d : 2 ^ suc t ≡ 2 ^ t * 2 = pow-suc 2 t in
+    let f = bit-fits (suc t) a e in
+    let q : (a - 2 ^ suc t) % 2 ≡ a % 2 = omega arith in
+    lowest-bit (a - 2 ^ suc t) ∙ ap (λ (m : ℕ). eqb m 1) q ∙ sym (lowest-bit a)
+less-else (suc t) a (suc b) e ne =
+    let d : 2 ^ suc t ≡ 2 ^ t * 2 = pow-suc 2 t in
+    let q : (a - 2 ^ suc t) / 2 ≡ a / 2 - 2 ^ t = omega arith in
+    higher-bit (a - 2 ^ suc t) b ∙ ap (λ (m : ℕ). bit m b) q
+    ∙ less-else t (a / 2) b (sym (higher-bit a t) ∙ e) (λ z. ne (ap suc z)) ∙ sym (higher-bit a b)
 
 -- ---- a list of tests as a mask
 

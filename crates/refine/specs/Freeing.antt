@@ -1,4 +1,4 @@
--- A row freed: its length, and that it is blank where every note that was not made is 0, and every mark where none was made.
+-- A row freed: its length, and that it is blank where what it has not marked as written is 0.
 use Prim.Native.Nat.{ℕ, suc, _+_, _-_, _/_, _%_, _≤_, _<_}
 use native.Mathlib.Omega.{arith}
 use native.Mathlib.Decide.{decLt}
@@ -13,24 +13,50 @@ use borrow.Author.Tests.{lt-ltb, le-ltb, eqb-true}
 use Rattle.model.specs.Undo.{Undo, restored, putBack}
 use Rattle.words.specs.View.{bit}
 use Rattle.words.specs.Bits.{bit-zero}
-use Rattle.state.specs.Row.{noteIf, blank, unnoted, freed}
+use Rattle.state.specs.Row.{noteIf, blank, unnoted, zeroed, unlocked, released, freed}
 use Rattle.theory.specs.UndoLaws.{back-length, back-at}
-use Rattle.refine.specs.Rep.{Clean}
+use Rattle.refine.specs.Rep.{Shallow, Clean}
 use Rattle.refine.specs.Runs.{Alike}
 use Rattle.refine.specs.Locks.{blank-word}
 
 pub blank-long : length blank ≡ 2264
 blank-long = length-replicate {A = ℕ} 2264 0
 
--- ---- notes that were not made
+-- ---- a clean row that stays clean
 
-pub clean-alike : (row row′ : List ℕ) → getD row′ 9 0 ≡ getD row 9 0 → Alike 152 2264 row row′ → Clean row → Clean row′
-clean-alike row row′ set alike clean =
+-- A row whose marks and marked words are those of a clean row, and whose activations are where no self-call was made.
+pub clean-kept : (row row′ : List ℕ) → Alike 9 11 row row′ → Alike 56 2264 row row′ → ((getD row 11 0 ≡ 0 → Shallow row) → getD row′ 11 0 ≡ 0 → Shallow row′)
+    → Clean row → Clean row′
+clean-kept row row′ head tail calls clean =
     record {
-      notes = λ k h e. alike (216 + k) (omega arith) (omega arith)
-          ∙ clean .notes k h (ap (λ (m : ℕ). bit m (k % 32)) (sym (alike (152 + k / 32) (omega arith) (omega arith))) ∙ e);
-      marks = λ e i g h. alike i g (omega arith) ∙ clean .marks (sym set ∙ e) i g h;
+      notes = λ k h e. tail (216 + k) (omega arith) (omega arith)
+          ∙ clean .notes k h (ap (λ (m : ℕ). bit m (k % 32)) (sym (tail (152 + k / 32) (omega arith) (omega arith))) ∙ e);
+      marks = λ e i g h. tail i (omega arith) (omega arith) ∙ clean .marks (sym (head 9 (omega arith) (omega arith)) ∙ e) i g h;
+      locks = λ i g h e. tail i g (omega arith) ∙ clean .locks i g h (ap (λ (m : ℕ). bit m (i / 8)) (sym (head 10 (omega arith) (omega arith))) ∙ e);
+      calls = calls (clean .calls);
     }
+
+-- A row alike but for its message's head and its first activation.
+pub clean-alike : (row row′ : List ℕ) → Alike 9 12 row row′ → Alike 21 2264 row row′ → (getD row 1 0 ≤ 1 → getD row′ 1 0 ≤ 1) → Clean row → Clean row′
+clean-alike row row′ head tail depth =
+    clean-kept row row′ (λ i g h. head i g (omega arith)) (λ i g h. tail i (omega arith) h)
+    (λ shallow z. let s = shallow (sym (head 11 (omega arith) (omega arith)) ∙ z) in
+    (depth (s .0), λ i g h. tail i g (omega arith) ∙ s .1 i g h))
+
+-- ---- words made 0
+
+module _ (p : ℕ → Bool) (row : List ℕ) where
+  pub zeroed-length : length (zeroed p row) ≡ length row
+  unfolding zeroed
+  zeroed-length = back-length (λ i. noteIf (p i) 0) row
+
+  pub zeroed-at : (i : ℕ) → i < length row → getD (zeroed p row) i 0 ≡ cond (p i) 0 (getD row i 0)
+  unfolding zeroed
+  zeroed-at i h = back-at (λ i. noteIf (p i) 0) row i h ∙ go (p i)
+    where
+      go : (b : Bool) → restored (noteIf b 0) (getD row i 0) ≡ cond b 0 (getD row i 0)
+      go true = refl
+      go false = refl
 
 -- ---- the row
 
@@ -91,12 +117,36 @@ module _ (row : List ℕ) (size : length row ≡ 2264) where
             ap (λ (j : ℕ). getD cleared j 0) e ∙ getD-append-add (replicate {A = ℕ} n 0) (drop n rest) (i - n) 0 ∙ getD-drop n rest (i - n) 0
             ∙ ap (λ (j : ℕ). getD rest j 0) k ∙ zero-there i (omega arith) h
 
+  -- ---- a row whose transaction set no value
+
+  unlocked-long : length (unlocked row) ≡ 2264
+  unfolding unlocked
+  unlocked-long = zeroed-length (λ i. bit (getD row 10 0) (i / 8)) row ∙ size
+
+  -- A word is 0 if it was, or if it is marked.
+  unlocked-word : (i : ℕ) → i < 2264 → (bit (getD row 10 0) (i / 8) ≡ false → getD row i 0 ≡ 0) → getD (unlocked row) i 0 ≡ 0
+  unfolding unlocked
+  unlocked-word i h e =
+      zeroed-at (λ i. bit (getD row 10 0) (i / 8)) row i (omega (arith, size)) ∙ go (bit (getD row 10 0) (i / 8)) refl
+    where
+      go : (b : Bool) → bit (getD row 10 0) (i / 8) ≡ b → cond b 0 (getD row i 0) ≡ 0
+      go true f = refl
+      go false f = e f
+
+  released-long : length (released row) ≡ 2264
+  unfolding released
+  released-long = go (eqb (getD row 11 0) 0)
+    where
+      go : (b : Bool) → length (cond b (cleared 24 (omega arith) (unlocked row) unlocked-long) (cleared 56 (omega arith) (unlocked row) unlocked-long)) ≡ 2264
+      go true = cleared-long 24 (omega arith) (unlocked row) unlocked-long
+      go false = cleared-long 56 (omega arith) (unlocked row) unlocked-long
+
   pub freed-long : length (freed row) ≡ 2264
   unfolding freed
   freed-long = go (eqb (getD row 9 0) 0)
     where
-      go : (b : Bool) → length (cond b (cleared 152 (omega arith) row size) (cleared 216 (omega arith) (unnoted row) unnoted-long)) ≡ 2264
-      go true = cleared-long 152 (omega arith) row size
+      go : (b : Bool) → length (cond b (released row) (cleared 216 (omega arith) (unnoted row) unnoted-long)) ≡ 2264
+      go true = released-long
       go false = cleared-long 216 (omega arith) (unnoted row) unnoted-long
 
   module _ (clean : Clean row) where
@@ -119,6 +169,30 @@ module _ (row : List ℕ) (size : length row ≡ 2264) where
             ap (λ (j : ℕ). getD row j 0) (sym k)
             ∙ clean .notes (i - 216) (omega arith) (ap (λ (x : ℕ). bit x ((i - 216) % 32)) m ∙ bit-zero ((i - 216) % 32))
 
+    -- A word behind the activations: a lock that was not taken, a mark or a note that was not made.
+    unheld : getD row 9 0 ≡ 0 → (i : ℕ) → 56 ≤ i → i < 2264 → getD (unlocked row) i 0 ≡ 0
+    unheld z i g h = go (decLt i 152)
+      where
+        go : Dec (i < 152) → getD (unlocked row) i 0 ≡ 0
+        go (yes l) = unlocked-word i h (clean .locks i g l)
+        go (no l) = unlocked-word i h (λ e. unset z i (omega arith) h)
+
+    released-word : getD row 9 0 ≡ 0 → (i : ℕ) → i < 2264 → getD (released row) i 0 ≡ 0
+    unfolding released
+    released-word z i h = go (eqb (getD row 11 0) 0) refl
+      where
+        alone : getD row 11 0 ≡ 0 → (j : ℕ) → 24 ≤ j → j < 2264 → getD (unlocked row) j 0 ≡ 0
+        alone quiet j g l = side (decLt j 56)
+          where
+            side : Dec (j < 56) → getD (unlocked row) j 0 ≡ 0
+            side (yes k) = unlocked-word j l (λ e. clean .calls quiet .1 j (omega arith) k)
+            side (no k) = unheld z j (omega arith) l
+
+        go : (b : Bool) → eqb (getD row 11 0) 0 ≡ b
+            → getD (cond b (cleared 24 (omega arith) (unlocked row) unlocked-long) (cleared 56 (omega arith) (unlocked row) unlocked-long)) i 0 ≡ 0
+        go true e = cleared-word 24 (omega arith) (unlocked row) unlocked-long (alone (eqb-true (getD row 11 0) 0 e)) i h
+        go false e = cleared-word 56 (omega arith) (unlocked row) unlocked-long (unheld z) i h
+
     word-freed : (i : ℕ) → i < 2264 → getD (freed row) i 0 ≡ 0
     unfolding freed
     word-freed i h = go (eqb (getD row 9 0) 0) refl
@@ -126,8 +200,8 @@ module _ (row : List ℕ) (size : length row ≡ 2264) where
         noted : (j : ℕ) → 216 ≤ j → j < 2264 → getD (unnoted row) j 0 ≡ 0
         noted j g l = let k : 216 + (j - 216) ≡ j = omega arith in ap (λ (x : ℕ). getD (unnoted row) x 0) (sym k) ∙ note-freed (j - 216) (omega arith)
 
-        go : (b : Bool) → eqb (getD row 9 0) 0 ≡ b → getD (cond b (cleared 152 (omega arith) row size) (cleared 216 (omega arith) (unnoted row) unnoted-long)) i 0 ≡ 0
-        go true e = cleared-word 152 (omega arith) row size (unset (eqb-true (getD row 9 0) 0 e)) i h
+        go : (b : Bool) → eqb (getD row 9 0) 0 ≡ b → getD (cond b (released row) (cleared 216 (omega arith) (unnoted row) unnoted-long)) i 0 ≡ 0
+        go true e = released-word (eqb-true (getD row 9 0) 0 e) i h
         go false e = cleared-word 216 (omega arith) (unnoted row) unnoted-long noted i h
 
     -- Every word is 0.

@@ -15,10 +15,10 @@ use Rattle.model.specs.Undo.{noted, putBack}
 use Rattle.words.specs.View.{statementCount}
 use Rattle.twophase.specs.Base.{at-or}
 use Rattle.state.specs.Row.{going, halted, answered, Left, act, withAct, newAct, top, stepped, passed, noteAt, skipRow, callRow, replyRow, backRow, freed, goingTo}
-use Rattle.refine.specs.Rep.{targetBy, messageOf, between, activationOf, stackOf, objectsFrom, runOf, Running, Clean}
+use Rattle.refine.specs.Rep.{targetBy, messageOf, between, activationOf, stackOf, objectsFrom, runOf, Running, Shallow, Clean}
 use Rattle.refine.specs.Runs.{Alike, between-none, activation-is, activation-same, stack-same, message-same, note-same, run-is}
 use Rattle.refine.specs.Stores.{else-word, new-word, act-length, act-other, act-opened, act-end}
-use Rattle.refine.specs.Freeing.{clean-alike}
+use Rattle.refine.specs.Freeing.{clean-kept}
 
 -- ---- what a step leaves, against the model's outcome
 
@@ -63,7 +63,7 @@ onwardRun r below = record { message = r .message; objects = r .objects; activat
 record Onward (tables : List ℕ) (p : Program) (row row′ : List ℕ) (d : ℕ) (stack : List Activation) : Type 0 where
   long : length row′ ≡ 2264
   phase : getD row′ 0 0 ≡ getD row 0 0
-  head : Alike 3 10 row row′
+  head : Alike 3 11 row row′
   tail : Alike 56 2264 row row′
   depth : getD row′ 1 0 ≡ d
   some : 0 < d
@@ -71,6 +71,7 @@ record Onward (tables : List ℕ) (p : Program) (row row′ : List ℕ) (d : ℕ
   steps : getD row′ 2 0 ≡ suc (getD row 2 0)
   activations : stackOf (p .library) row′ d ≡ stack
   inside : (j : ℕ) → j < d → act row′ j 1 ≤ statementCount tables
+  calls : (getD row 11 0 ≡ 0 → Shallow row) → getD row′ 11 0 ≡ 0 → Shallow row′
 
 module _ (text tables : List ℕ) (p : Program) (row values : List ℕ) (size : length row ≡ 2264) (runs : Running tables p row) where
   onward-goes : (given row′ : List ℕ) (d : ℕ) (stack : List Activation) → given ≡ row′ → Onward tables p row row′ d stack
@@ -95,7 +96,7 @@ module _ (text tables : List ℕ) (p : Program) (row values : List ℕ) (size : 
           domain = λ h. omega (arith, w6, runs .domain (omega (arith, w5)));
         };
         notes = note-same row row′ (λ i g h. o .tail i (omega arith) (omega arith));
-        clean = clean-alike row row′ (o .head 9 (omega arith) (omega arith)) (λ i g h. o .tail i (omega arith) (omega arith));
+        clean = clean-kept row row′ (λ i g h. o .head i (omega arith) h) (o .tail) (o .calls);
         locks = λ i g h. o .tail i g (omega arith);
       })
     where
@@ -177,6 +178,9 @@ module _ (text tables : List ℕ) (p : Program) (row values : List ℕ) (size : 
               (keep (at 1) (omega arith)) (keep (at 2) (omega arith)) (keep (at 3) (omega arith)) (keep (at 4) (omega arith)))
               (stack-same l row row′ k (λ i g h. keep i (omega arith)));
           inside = λ j h. omega (arith, keep (16 + j * 5 + 1) (omega arith), runs .ends j (omega arith));
+          calls = λ shallow z.
+              let s = shallow (sym (keep 11 (omega arith)) ∙ z) in
+              (omega (arith, keep 1 (omega arith), s .0), λ i g h. keep i (omega (arith, s .0, deep)) ∙ s .1 i g h);
         })
 
     -- ---- the body has its reply
@@ -219,6 +223,9 @@ module _ (text tables : List ℕ) (p : Program) (row values : List ℕ) (size : 
               ∙ ap (λ (ss : List Statement). record { rest = ss; arg = act row k 2; got = act row k 3; reply = v }) (between-none l end end (omega arith)))
               (stack-same l row row′ k (λ i g h. keep i (omega arith)));
           inside = λ j h. omega (arith, keep (16 + j * 5 + 1) (omega arith), runs .ends j (omega arith));
+          calls = λ shallow z.
+              let s = shallow (sym (keep 11 (omega arith)) ∙ z) in
+              (omega (arith, keep 1 (omega arith), s .0), λ i g h. keep i (omega (arith, s .0, deep)) ∙ s .1 i g h);
         })
 
     -- ---- a self-call
@@ -230,17 +237,20 @@ module _ (text tables : List ℕ) (p : Program) (row values : List ℕ) (size : 
       abbrev withCallee : List ℕ
       withCallee = newAct passedOn (suc k) first end argument
 
+      abbrev calling : List ℕ
+      calling = set withCallee 11 1
+
       abbrev deeper : List ℕ
-      deeper = set withCallee 1 (suc (suc k))
+      deeper = set calling 1 (suc (suc k))
 
       call-is : callRow first end argument row ≡ set deeper 2 (suc steps)
       unfolding callRow
       call-is =
           let more : (suc k + 1) % 4294967296 ≡ suc (suc k) = omega (arith, few) in
-          ap₂ (λ (z : List ℕ) (d : ℕ). stepped (set (newAct z d first end argument) 1 ((d + 1) % 4294967296))) (pass-is h) deep
-          ∙ ap (λ (d : ℕ). stepped (set withCallee 1 d)) more
-          ∙ step-is deeper (else-word withCallee 1 (suc (suc k)) 2 (omega arith) ∙ act-other passedOn (suc k) first end argument 2 (omega arith)
-          ∙ else-word row (at 0) (suc next) 2 (omega arith))
+          ap₂ (λ (z : List ℕ) (d : ℕ). stepped (set (set (newAct z d first end argument) 11 1) 1 ((d + 1) % 4294967296))) (pass-is h) deep
+          ∙ ap (λ (d : ℕ). stepped (set calling 1 d)) more
+          ∙ step-is deeper (else-word calling 1 (suc (suc k)) 2 (omega arith) ∙ else-word withCallee 11 1 2 (omega arith)
+          ∙ act-other passedOn (suc k) first end argument 2 (omega arith) ∙ else-word row (at 0) (suc next) 2 (omega arith))
 
       -- The callee's activation is opened, and the caller goes on behind the call.
       pub call-goes : end ≤ statementCount tables → suc k < 8
@@ -251,12 +261,15 @@ module _ (text tables : List ℕ) (p : Program) (row values : List ℕ) (size : 
           let row′ = set deeper 2 (suc steps) in
           let long₁ = length-set row (at 0) (suc next) in
           let long₂ = act-length passedOn (suc k) first end argument in
-          let long₃ = length-set withCallee 1 (suc (suc k)) in
-          let long₄ = length-set deeper 2 (suc steps) in
-          let behind : (i : ℕ) → (i ≢ 2) × (i ≢ 1) → getD row′ i 0 ≡ getD withCallee i 0 =
-          λ i n. else-word deeper 2 (suc steps) i (n .0) ∙ else-word withCallee 1 (suc (suc k)) i (n .1) in
-          let keep : (i : ℕ) → (i ≢ 2) × (i ≢ 1) × (i ≢ at 0) × (16 + suc k * 5 ≤ i → i < 16 + suc k * 5 + 5 → ⊥) → getD row′ i 0 ≡ getD row i 0 =
-          λ i n. behind i (n .0, n .1) ∙ act-other passedOn (suc k) first end argument i (n .3) ∙ else-word row (at 0) (suc next) i (n .2) in
+          let long₃ = length-set withCallee 11 1 in
+          let long₄ = length-set calling 1 (suc (suc k)) in
+          let long₅ = length-set deeper 2 (suc steps) in
+          let behind : (i : ℕ) → (i ≢ 2) × (i ≢ 1) × (i ≢ 11) → getD row′ i 0 ≡ getD withCallee i 0 =
+          λ i n. else-word deeper 2 (suc steps) i (n .0) ∙ else-word calling 1 (suc (suc k)) i (n .1) ∙ else-word withCallee 11 1 i (n .2) in
+          let keep : (i : ℕ) → (i ≢ 2) × (i ≢ 1) × (i ≢ 11) × (i ≢ at 0) × (16 + suc k * 5 ≤ i → i < 16 + suc k * 5 + 5 → ⊥) → getD row′ i 0 ≡ getD row i 0 =
+          λ i n. behind i (n .0, n .1, n .2) ∙ act-other passedOn (suc k) first end argument i (n .4) ∙ else-word row (at 0) (suc next) i (n .3) in
+          let flag : getD row′ 11 0 ≡ 1 =
+          else-word deeper 2 (suc steps) 11 (omega arith) ∙ else-word calling 1 (suc (suc k)) 11 (omega arith) ∙ new-word withCallee 11 1 (omega arith) in
           let last = behind (16 + suc k * 5 + 1) (omega arith) ∙ act-end passedOn (suc k) first end argument l (omega arith) in
           onward-goes (callRow first end argument row) row′ (suc (suc k))
           (opened (between l first end) argument ∷ withRest (activationOf l row k) (between l (suc next) (act row k 1)) ∷ below) call-is (record {
@@ -264,7 +277,7 @@ module _ (text tables : List ℕ) (p : Program) (row values : List ℕ) (size : 
             phase = keep 0 (omega arith);
             head = λ i g h. keep i (omega arith);
             tail = λ i g h. keep i (omega arith);
-            depth = else-word deeper 2 (suc steps) 1 (omega arith) ∙ new-word withCallee 1 (suc (suc k)) (omega arith);
+            depth = else-word deeper 2 (suc steps) 1 (omega arith) ∙ new-word calling 1 (suc (suc k)) (omega arith);
             some = omega arith;
             few = room;
             steps = new-word deeper 2 (suc steps) (omega arith);
@@ -276,7 +289,8 @@ module _ (text tables : List ℕ) (p : Program) (row values : List ℕ) (size : 
                 (keep (at 1) (omega arith)) (keep (at 2) (omega arith)) (keep (at 3) (omega arith)) (keep (at 4) (omega arith)))
                 (stack-same l row row′ k (λ i g h. keep i (omega arith))));
             inside = at-or (λ (j : ℕ). j < suc (suc k) → act row′ j 1 ≤ statementCount tables) (suc k) (λ z. omega (arith, last))
-                (λ j ne z. omega (arith, keep (16 + j * 5 + 1) (omega arith, omega arith, omega arith, λ g e. ne (omega arith)), runs .ends j (omega arith)));
+                (λ j ne z. omega (arith, keep (16 + j * 5 + 1) (omega arith, omega arith, omega arith, omega arith, λ g e. ne (omega arith)), runs .ends j (omega arith)));
+            calls = λ shallow z. absurd (omega (arith, flag));
           })
 
   -- ---- the end of a callee's body: its reply goes to the caller
@@ -325,4 +339,5 @@ module _ (text tables : List ℕ) (p : Program) (row values : List ℕ) (size : 
               (else-word two 2 (suc s) caller (omega arith) ∙ new-word one caller v (omega arith)) (keep (16 + j * 5 + 4) (omega arith)))
               (stack-same l row row′ j (λ i g h. keep i (omega arith)));
           inside = λ i h. omega (arith, keep (16 + i * 5 + 1) (omega arith), runs .ends i (omega arith));
+          calls = λ shallow z. absurd (let s = shallow (sym (keep 11 (omega arith)) ∙ z) in omega (arith, s .0, deep));
         })

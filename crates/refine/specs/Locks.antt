@@ -1,11 +1,11 @@
 -- A slot's list of locks against the lock words of its row: of a blank row, of a row alike, and as locks are taken.
-use Prim.Native.Nat.{ℕ, _+_, _^_, _≤_, _<_}
+use Prim.Native.Nat.{ℕ, _+_, _/_, _%_, _^_, _≤_, _<_}
 use native.Mathlib.Omega.{arith}
 use native.Mathlib.Decide.{ℕ-discrete, decLt}
 use mathlib.Core.Path.{_≡_, refl, sym, ap, ap₂, subst, _∙_}
 use mathlib.Core.Bool.{Bool, true, false, _&&_, _||_, true≢false, false≢true}
 use mathlib.Core.List.{List, [], _∷_, map}
-use lib.ListN.{length, getD, getD-replicate, length-replicate, List·getD-eq-default}
+use lib.ListN.{length, getD, length-set, getD-replicate, length-replicate, List·getD-eq-default}
 use lib.Bits.{bitOr}
 use lib.Dec.{eqb, ltb}
 use borrow.Author.Tests.{ltb-true, eqb-true, eq-eqb, ne-eqb}
@@ -19,7 +19,7 @@ use Rattle.words.specs.View.{bit, classCount, memberCount}
 use Rattle.words.specs.Bits.{bit-zero, bit-or}
 use Rattle.theory.specs.ListLaws.{both-left, both-right, same-sound, same-refl, eqb-same}
 use Rattle.theory.specs.Lookup.{name-at}
-use Rattle.state.specs.Row.{blank}
+use Rattle.state.specs.Row.{blank, lockMarked}
 use Rattle.state.specs.Request.{withLock}
 use Rattle.refine.specs.Rep.{Fits, lockWord, lockClass, lockMethod, lockBit, onKnown, Holdable, heldIn, sameFlag, samePlace, sameLock, Holds}
 use Rattle.refine.specs.Bits.{same-test, bit-one}
@@ -177,6 +177,15 @@ module _ (text tables : List ℕ) (p : Program) (fits : Fits text tables p) wher
         word : ℕ
         word = bitOr (getD row (lockWord y) 0) (2 ^ lockBit p y)
 
+        mark : ℕ
+        mark = bitOr (getD row 10 0) (2 ^ (lockWord y / 8 % 32))
+
+        marked : List ℕ
+        marked = lockMarked row (lockWord y)
+
+        marked-long : length marked ≡ length row
+        marked-long = length-set row 10 mark
+
         swap : (a b : Bool) → (a || b) ≡ (b || a)
         swap true true = refl
         swap true false = refl
@@ -186,7 +195,7 @@ module _ (text tables : List ℕ) (p : Program) (fits : Fits text tables p) wher
         here : lockWord x ≡ lockWord y → bit (getD (taken p row y) (lockWord x) 0) k ≡ (eqb (lockBit p y) k || bit (getD row (lockWord x) 0) k)
         here e =
             ap (λ (i : ℕ). bit (getD (taken p row y) i 0) k) e
-            ∙ ap (λ (w : ℕ). bit w k) (new-word row (lockWord y) word (omega (arith, known-word y (can .0) .1)))
+            ∙ ap (λ (w : ℕ). bit w k) (new-word marked (lockWord y) word (omega (arith, marked-long, known-word y (can .0) .1)))
             ∙ bit-or (getD row (lockWord y) 0) (2 ^ lockBit p y) k
             ∙ swap (bit (getD row (lockWord y) 0) k) (bit (2 ^ lockBit p y) k)
             ∙ ap₂ _||_ (bit-one (lockBit p y) k (low-bit y can)) (ap (λ (i : ℕ). bit (getD row i 0) k) (sym e))
@@ -196,7 +205,9 @@ module _ (text tables : List ℕ) (p : Program) (fits : Fits text tables p) wher
         go (yes e) true f = here e
         go (yes e) false f = absurd (true≢false (sym (word-place x y known (can .0) e) ∙ f))
         go (no ne) true f = absurd (ne (place-word x y f))
-        go (no ne) false f = ap (λ (w : ℕ). bit w k) (else-word row (lockWord y) word (lockWord x) ne)
+        go (no ne) false f =
+            ap (λ (w : ℕ). bit w k)
+            (else-word marked (lockWord y) word (lockWord x) ne ∙ else-word row 10 mark (lockWord x) (λ e. omega (arith, known-word x known .0)))
 
     -- It holds that lock too.
     pub taken-holds : (held : List Lock) → Holds p row held → Holds p (taken p row y) (y ∷ held)

@@ -114,7 +114,16 @@ module _ (row : List ℕ) (size : length row ≡ 2264) (k v : ℕ) (few : k < 20
       go (no d) = ap (λ (m : ℕ). bit m (j % 32)) (sym (made-other (152 + j / 32) (λ q. d (omega arith), omega arith, omega arith))) ∙ e
 
   made-clean : Clean row → Clean made
-  made-clean clean = record { notes = made-unmade (clean .notes); marks = λ e. absurd (omega (arith, made-flag)) }
+  made-clean clean =
+      let other : (i : ℕ) → i < 152 → i ≢ 9 → getD made i 0 ≡ getD row i 0 = λ i h n. made-other i (omega arith, omega arith, n) in
+      record {
+        notes = made-unmade (clean .notes);
+        marks = λ e. absurd (omega (arith, made-flag));
+        locks = λ i g h e. other i h (omega arith) ∙ clean .locks i g h (ap (λ (m : ℕ). bit m (i / 8)) (sym (other 10 (omega arith) (omega arith))) ∙ e);
+        calls = λ z.
+            let s = clean .calls (sym (other 11 (omega arith) (omega arith)) ∙ z) in
+            (omega (arith, other 1 (omega arith) (omega arith), s .0), λ i g h. other i (omega arith) (omega arith) ∙ s .1 i g h);
+      }
 
   -- The notes of the row that has noted a value, and what else it has kept.
   pub record Noted (row′ : List ℕ) : Type 0 where

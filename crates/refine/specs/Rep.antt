@@ -168,10 +168,17 @@ abbrev pub NowRep : List ℕ → List ℕ → Program → List ℕ → Option Ru
 NowRep text tables p row none = getD row 0 0 ≡ 1
 NowRep text tables p row (some r) = (getD row 0 0 ≡ 2) × (r ≡ runOf text p row) × Running tables p row
 
--- A note that the row has not made is 0, and so are its marks where no value was set.
+-- At most one activation is open, and the words of the others are 0.
+abbrev pub Shallow : List ℕ → Type 0
+Shallow row = (getD row 1 0 ≤ 1) × ((i : ℕ) → 21 ≤ i → i < 56 → getD row i 0 ≡ 0)
+
+-- What the row has not marked as written is 0: a note without its mark, the marks where no value was set, the words where no
+-- lock was taken, the activations past the first where no self-call was made.
 pub record Clean (row : List ℕ) : Type 0 where
   pub notes : (k : ℕ) → k < 2048 → bit (getD row (152 + k / 32) 0) (k % 32) ≡ false → getD row (216 + k) 0 ≡ 0
   pub marks : getD row 9 0 ≡ 0 → (i : ℕ) → 152 ≤ i → i < 216 → getD row i 0 ≡ 0
+  pub locks : (i : ℕ) → 56 ≤ i → i < 152 → bit (getD row 10 0) (i / 8) ≡ false → getD row i 0 ≡ 0
+  pub calls : getD row 11 0 ≡ 0 → Shallow row
 
 pub record OpenRep (text tables : List ℕ) (p : Program) (row : List ℕ) (t : Transaction (service p)) : Type 0 where
   pub undo : (k : ℕ) → noteAt row k ≡ t .undo k

@@ -86,10 +86,9 @@ module _ (text ws values : List ℕ) (p : Program) (slots : ℕ → Slot (servic
               (record {
                 undo = λ j.
                     note-same row₁ row₂ (λ i g e. start .tail i (omega arith) e) j
-                    ∙ note-same row row₁ (λ i g e. took .kept i (λ y z. omega arith)) j ∙ open′ .undo j;
-                clean = clean-alike row₁ row₂ (start .noted) (λ i g e. start .tail i (omega arith) e)
-                    (clean-alike row row₁ (took .kept 9 (λ y z. omega arith)) (λ i g e. took .kept i (λ y z. omega arith)) (open′ .clean));
-                locks = holds-alike text tables p (rep .fits) row₁ row₂ locks (λ i g e. start .tail i g (omega arith)) (took .holds);
+                    ∙ note-same row row₁ (λ i g e. took .kept i (omega arith) (λ y z. omega arith)) j ∙ open′ .undo j;
+                clean = clean-alike row₁ row₂ (start .head) (start .tail) (λ d. start .depth) (took .clean (open′ .clean));
+                locks = holds-alike text tables p (rep .fits) row₁ row₂ locks (λ i g e. start .tail i (omega arith) (omega arith)) (took .holds);
                 now = (start .phase, start .run, start .runs);
               }),
         )

@@ -23,7 +23,7 @@ use Rattle.refine.specs.Tables.{method-name, body-at}
 use Rattle.refine.specs.Objects.{visited-is, next-some, next-none}
 use Rattle.refine.specs.Runs.{Alike}
 use Rattle.refine.specs.Stores.{else-word, new-word}
-use Rattle.refine.specs.Visits.{headRow, visitRow, head-length, head-other, empty-run, empty-running, visit-length, visit-other, visit-run, visit-running}
+use Rattle.refine.specs.Visits.{headRow, visitRow, head-length, head-other, head-depth, empty-run, empty-running, visit-length, visit-other, visit-depth, visit-run, visit-running}
 use Rattle.refine.specs.RowTest.{Aims, one, each, whole, methodOf}
 
 target-of : (tables : List ℕ) (c kind n : ℕ) (t : Target) → Aims tables c kind n t → targetBy kind n ≡ t
@@ -46,8 +46,9 @@ pub record Starts (text tables : List ℕ) (p : Program) (row row′ : List ℕ)
   pub phase : getD row′ 0 0 ≡ 2
   pub run : r ≡ runOf text p row′
   pub runs : Running tables p row′
-  pub noted : getD row′ 9 0 ≡ getD row 9 0
-  pub tail : Alike 56 2264 row row′
+  pub depth : getD row′ 1 0 ≤ 1
+  pub head : Alike 9 12 row row′
+  pub tail : Alike 21 2264 row row′
 
 module _ (text tables : List ℕ) (p : Program) (fits : Fits text tables p) (c k a : ℕ) (h : c < classCount tables) (has : k < memberCount tables c 1)
     (kind n : ℕ) (t : Target) (aims : Aims tables c kind n t) (row : List ℕ) (size : length row ≡ 2264) where
@@ -144,7 +145,8 @@ module _ (text tables : List ℕ) (p : Program) (fits : Fits text tables p) (c k
         phase = other 0 (omega arith) ∙ word0;
         run = begun-is ∙ sym (visit-run text tables p fits named named-length there o 0 l aimed);
         runs = visit-running text tables p fits named named-length there o 0 l aimed;
-        noted = other 9 (omega arith) ∙ named-other 9 (omega arith);
+        depth = omega (arith, visit-depth text tables p fits named named-length there o 0 l aimed);
+        head = λ i g e. other i (omega arith) ∙ named-other i (omega arith);
         tail = λ i g e. other i (omega arith) ∙ named-other i (omega arith);
       })
     where
@@ -180,7 +182,8 @@ module _ (text tables : List ℕ) (p : Program) (fits : Fits text tables p) (c k
         phase = head-other named named-length o 0 0 0 (omega arith) ∙ word0;
         run = begun-is ∙ sym (empty-run text tables p fits named named-length there o 0 l);
         runs = empty-running text tables p fits named named-length there o 0 l;
-        noted = head-other named named-length o 0 0 9 (omega arith) ∙ named-other 9 (omega arith);
+        depth = omega (arith, head-depth named named-length o 0 0);
+        head = λ i g e. head-other named named-length o 0 0 i (omega arith) ∙ named-other i (omega arith);
         tail = λ i g e. head-other named named-length o 0 0 i (omega arith) ∙ named-other i (omega arith);
       })
     where

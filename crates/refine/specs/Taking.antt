@@ -1,13 +1,14 @@
 -- A send's locks as they are taken: its row then holds them besides those that it held, and is else as it was.
-use Prim.Native.Nat.{ℕ, _+_, _^_, _≤_, _<_}
+use Prim.Native.Nat.{ℕ, _+_, _/_, _%_, _^_, _≤_, _<_}
 use native.Mathlib.Omega.{arith}
 use mathlib.Core.Path.{_≡_, refl, sym, ap, ap₂, subst, _∙_}
-use mathlib.Core.Bool.{Bool, true, false, cond, _&&_, _||_}
+use mathlib.Core.Logic.{_≢_}
+use mathlib.Core.Bool.{Bool, true, false, cond, _&&_, _||_, true≢false}
 use mathlib.Core.List.{List, [], _∷_, _++_, map, List·Memᴰ, List·Memᴰ·head, List·Memᴰ·tail}
 use lib.ListN.{length, getD, length-set}
 use lib.Bits.{bitOr}
-use lib.Dec.{ltb}
-use borrow.Author.Tests.{ltb-true, ltb-false}
+use lib.Dec.{eqb, ltb}
+use borrow.Author.Tests.{ltb-true, ltb-false, eqb-false}
 use Rattle.model.specs.Base.{fold, any, keep, upto}
 use Rattle.model.specs.Word.{Name}
 use Rattle.model.specs.Library.{classAt, memberPlace}
@@ -15,12 +16,15 @@ use Rattle.model.specs.Vector.{Program}
 use Rattle.model.specs.Message.{Target}
 use Rattle.model.specs.Message as Model
 use Rattle.model.specs.Lock.{Lock, onObject, onClass, domainOf, locksFor}
-use Rattle.words.specs.View.{classCount, objectCount, memberCount}
+use Rattle.words.specs.View.{classCount, objectCount, memberCount, bit}
+use Rattle.words.specs.Bits.{bit-or}
+use Rattle.state.specs.Row.{lockMarked, withBits}
 use Rattle.state.specs.Request.{Wanted, placeIn, inDomain, concerns, withLock, domainLock, locked}
 use Rattle.state.specs.Calls.{wanted}
-use Rattle.refine.specs.Rep.{Fits, lockWord, lockBit, Holdable, sameLock, Holds}
+use Rattle.refine.specs.Rep.{Fits, lockWord, lockBit, Holdable, sameLock, Holds, Clean}
+use Rattle.refine.specs.Bits.{bit-one}
 use Rattle.refine.specs.Tables.{class-total, method-total, class-is}
-use Rattle.refine.specs.Stores.{else-word}
+use Rattle.refine.specs.Stores.{else-word, new-word}
 use Rattle.refine.specs.Locks.{known-word, taken, taken-holds, useless-holds, holds-same}
 use Rattle.refine.specs.Clashes.{below-count}
 use Rattle.refine.specs.RowTest.{Aims, one, each, whole, methodOf, class-known, object-known, method-place, place-there, domain-there}
@@ -43,26 +47,70 @@ any-middle q (x ∷ xs) y ys = ap (λ (b : Bool). q x || b) (any-middle q xs y y
 
 pub record Took (p : Program) (row row′ : List ℕ) (held : List Lock) : Type 0 where
   pub long : length row′ ≡ 2264
-  pub kept : (i : ℕ) → (56 ≤ i → i < 152 → ⊥) → getD row′ i 0 ≡ getD row i 0
+  pub kept : (i : ℕ) → i ≢ 10 → (56 ≤ i → i < 152 → ⊥) → getD row′ i 0 ≡ getD row i 0
+  pub clean : Clean row → Clean row′
   pub holds : Holds p row′ held
 
 took-more : (p : Program) (row row₁ row₂ : List ℕ) (held held₂ : List Lock) → Took p row row₁ held → Took p row₁ row₂ held₂ → Took p row row₂ held₂
-took-more p row row₁ row₂ held held₂ a b = record { long = b .long; kept = λ i out. b .kept i out ∙ a .kept i out; holds = b .holds }
+took-more p row row₁ row₂ held held₂ a b =
+    record { long = b .long; kept = λ i ne out. b .kept i ne out ∙ a .kept i ne out; clean = λ c. b .clean (a .clean c); holds = b .holds }
+
+-- ---- a word with locks, and its mark
+
+or-none : (a b : Bool) → (a || b) ≡ false → (a ≡ false) × (b ≡ false)
+or-none false b e = (refl, e)
+or-none true b e = absurd (true≢false e)
+
+module _ (row : List ℕ) (size : length row ≡ 2264) (w bits : ℕ) (from : 56 ≤ w) (end : w < 152) where
+  abbrev word : ℕ
+  word = bitOr (getD row w 0) bits
+
+  abbrev mark : ℕ
+  mark = bitOr (getD row 10 0) (2 ^ (w / 8 % 32))
+
+  marked-long : length (withBits row w bits) ≡ 2264
+  marked-long = length-set (lockMarked row w) w word ∙ length-set row 10 mark ∙ size
+
+  marked-other : (i : ℕ) → i ≢ 10 → i ≢ w → getD (withBits row w bits) i 0 ≡ getD row i 0
+  marked-other i n m = else-word (lockMarked row w) w word i m ∙ else-word row 10 mark i n
+
+  mark-is : (d : ℕ) → bit (getD (withBits row w bits) 10 0) d ≡ (bit (getD row 10 0) d || eqb (w / 8) d)
+  mark-is d =
+      let low : w / 8 % 32 ≡ w / 8 = omega arith in
+      ap (λ (m : ℕ). bit m d) (else-word (lockMarked row w) w word 10 (omega arith) ∙ new-word row 10 mark (omega arith))
+      ∙ bit-or (getD row 10 0) (2 ^ (w / 8 % 32)) d ∙ ap (λ (b : Bool). bit (getD row 10 0) d || b) (bit-one (w / 8 % 32) d (omega arith))
+      ∙ ap (λ (b : ℕ). bit (getD row 10 0) d || eqb b d) low
+
+  marked-clean : Clean row → Clean (withBits row w bits)
+  marked-clean clean =
+      record {
+        notes = λ k h e. marked-other (216 + k) (omega arith) (omega arith)
+            ∙ clean .notes k h (ap (λ (m : ℕ). bit m (k % 32)) (sym (marked-other (152 + k / 32) (omega arith) (omega arith))) ∙ e);
+        marks = λ e i g h. marked-other i (omega arith) (omega arith) ∙ clean .marks (sym (marked-other 9 (omega arith) (omega arith)) ∙ e) i g h;
+        locks = λ i g h e.
+            let free = or-none (bit (getD row 10 0) (i / 8)) (eqb (w / 8) (i / 8)) (sym (mark-is (i / 8)) ∙ e) in
+            marked-other i (omega arith) (λ z. eqb-false (w / 8) (i / 8) (free .1) (ap (λ (j : ℕ). j / 8) (sym z))) ∙ clean .locks i g h (free .0);
+        calls = λ z.
+            let s = clean .calls (sym (marked-other 11 (omega arith) (omega arith)) ∙ z) in
+            (omega (arith, marked-other 1 (omega arith) (omega arith), s .0), λ i g h. marked-other i (omega arith) (omega arith) ∙ s .1 i g h);
+      }
 
 module _ (text tables : List ℕ) (p : Program) (fits : Fits text tables p) where
   took-one : (row : List ℕ) → length row ≡ 2264 → (y : Lock) → Holdable p y → (held : List Lock) → Holds p row held → Took p row (taken p row y) (y ∷ held)
   took-one row size y can held holds =
-      let word = bitOr (getD row (lockWord y) 0) (2 ^ lockBit p y) in
       let w = known-word text tables p fits y (can .0) in
+      let bits = 2 ^ lockBit p y in
       record {
-        long = length-set row (lockWord y) word ∙ size;
-        kept = λ i out. else-word row (lockWord y) word i (λ e. out (subst (λ (j : ℕ). 56 ≤ j) (sym e) (w .0)) (subst (λ (j : ℕ). j < 152) (sym e) (w .1)));
+        long = marked-long row size (lockWord y) bits (w .0) (w .1);
+        kept = λ i ne out. marked-other row size (lockWord y) bits (w .0) (w .1) i ne
+            (λ e. out (subst (λ (j : ℕ). 56 ≤ j) (sym e) (w .0)) (subst (λ (j : ℕ). j < 152) (sym e) (w .1)));
+        clean = marked-clean row size (lockWord y) bits (w .0) (w .1);
         holds = taken-holds text tables p fits row size y can held holds;
       }
 
   took-same : (row row′ : List ℕ) (held held′ : List Lock) → ((x : Lock) → any (sameLock x) held ≡ any (sameLock x) held′) → Took p row row′ held
       → Took p row row′ held′
-  took-same row row′ held held′ e t = record { long = t .long; kept = t .kept; holds = holds-same text tables p fits row′ held held′ e (t .holds) }
+  took-same row row′ held held′ e t = record { long = t .long; kept = t .kept; clean = t .clean; holds = holds-same text tables p fits row′ held held′ e (t .holds) }
 
   module _ (c k a : ℕ) (h : c < classCount tables) (has : k < memberCount tables c 1) where
     abbrev m : Name
@@ -94,7 +142,7 @@ module _ (text tables : List ℕ) (p : Program) (fits : Fits text tables p) wher
 
     module _ (row : List ℕ) (size : length row ≡ 2264) (held : List Lock) (holds : Holds p row held) where
       same-row : Took p row row held
-      same-row = record { long = size; kept = λ i out. refl; holds = holds }
+      same-row = record { long = size; kept = λ i ne out. refl; clean = λ c. c; holds = holds }
 
       took-class : (d : ℕ) → d < classCount tables → (b : Bool) → Model.inDomain p c d ≡ b
           → Took p row (domainLock text tables (q 2 c) row d) (map lock (cond b (d ∷ []) []) ++ held)
@@ -122,7 +170,8 @@ module _ (text tables : List ℕ) (p : Program) (fits : Fits text tables p) wher
           go true false f =
               record {
                 long = size;
-                kept = λ i out. refl;
+                kept = λ i ne out. refl;
+                clean = λ c. c;
                 holds = useless-holds text tables p fits row (lock d) held
                     (omega (arith, ltb-false there count f, there-is, total)) holds;
               }

@@ -78,7 +78,12 @@ module _ (text ws values : List ℕ) (p : Program) (slots : ℕ → Slot (servic
     moved text ws values p slots rep s h (set row 0 1) values (length-set row 0 1 ∙ row-size) refl (opened (newTransaction (service p)))
         (record {
           undo = λ k. note-same row (set row 0 1) (λ i g l. phased 1 i (omega arith)) k ∙ zero-notes row zeros k;
-          clean = record { notes = λ k l m. phased 1 (216 + k) (omega arith) ∙ zeros (216 + k); marks = λ z i g l. phased 1 i (omega arith) ∙ zeros i };
+          clean = record {
+            notes = λ k l m. phased 1 (216 + k) (omega arith) ∙ zeros (216 + k);
+            marks = λ z i g l. phased 1 i (omega arith) ∙ zeros i;
+            locks = λ i g l z. phased 1 i (omega arith) ∙ zeros i;
+            calls = λ z. (omega (arith, phased 1 1 (omega arith), zeros 1), λ i g l. phased 1 i (omega arith) ∙ zeros i);
+          };
           locks = holds-alike text (tablesOf ws) p (rep .fits) row (set row 0 1) [] (λ i g l. phased 1 i (omega arith))
               (subst (λ (r : List ℕ). Holds p r []) (sym e) (blank-holds p));
           now = new-word row 0 1 (omega (arith, row-size));
@@ -144,7 +149,8 @@ module _ (text ws values : List ℕ) (p : Program) (slots : ℕ → Slot (servic
           steps-to (x .row) (x .values) e none (ap length (m .left) ∙ length-set row 0 1 ∙ row-size) (m .fields ∙ ap (λ (d : Effect). Model.act d values) (sym e′))
               (record {
                 undo = λ k. note-same row (x .row) (λ i g l. keep i (omega arith)) k ∙ open′ .undo k ∙ ap (λ (d : Effect). noted (t .undo) d values k) (sym e′);
-                clean = clean-alike row (x .row) (keep 9 (omega arith)) (λ i g l. keep i (omega arith)) (open′ .clean);
+                clean = clean-alike row (x .row) (λ i g l. keep i (omega arith)) (λ i g l. keep i (omega arith)) (λ d. omega (arith, keep 1 (omega arith)))
+                    (open′ .clean);
                 locks = holds-alike text (tablesOf ws) p (rep .fits) row (x .row) (t .locks) (λ i g l. keep i (omega arith)) (open′ .locks);
                 now = ap (λ (r : List ℕ). getD r 0 0) (m .left) ∙ new-word row 0 1 (omega (arith, row-size));
               }),

@@ -53,7 +53,7 @@ module _ (row : List ℕ) (size : length row ≡ 2264) (o sum d : ℕ) where
   pub head-other : (i : ℕ) → (i ≢ 1) × (i ≢ 2) × (i ≢ 3) × (i ≢ 4) → getD (headRow row o sum d) i 0 ≡ getD row i 0
   head-other i n = else-word row₃ 3 sum i (n .2) ∙ else-word row₂ 2 0 i (n .1) ∙ else-word row₁ 1 d i (n .0) ∙ else-word row 4 o i (n .3)
 
-  head-depth : getD (headRow row o sum d) 1 0 ≡ d
+  pub head-depth : getD (headRow row o sum d) 1 0 ≡ d
   head-depth = else-word row₃ 3 sum 1 (omega arith) ∙ else-word row₂ 2 0 1 (omega arith) ∙ new-word row₁ 1 d (omega (arith, length-set row 4 o))
 
   head-steps : getD (headRow row o sum d) 2 0 ≡ 0
@@ -146,8 +146,8 @@ module _ (text tables : List ℕ) (p : Program) (fits : Fits text tables p) (row
         (act-opened head 0 first end argument (p .library) (omega (arith, head-length row size o sum 1))
         ∙ ap (λ (ss : List Statement). opened ss argument) (sym body-here))
 
-    depth-is : getD on 1 0 ≡ 1
-    depth-is = behind 1 (omega arith) ∙ head-depth row size o sum 1
+    pub visit-depth : getD on 1 0 ≡ 1
+    visit-depth = behind 1 (omega arith) ∙ head-depth row size o sum 1
 
     object-is : getD on 4 0 ≡ o
     object-is = behind 4 (omega arith) ∙ head-object row size o sum 1
@@ -158,7 +158,7 @@ module _ (text tables : List ℕ) (p : Program) (fits : Fits text tables p) (row
         let e = message-same text row on (λ i g h. visit-other i (omega arith)) in
         run-is text p on m os (Model.firstActivation p m os) 0 sum e
         (ap₂ (objectsFrom p) (ap (λ (z : Message). z .target) e) object-is ∙ objects-here text tables p fits (m .target) o here aimed)
-        (ap (stackOf (p .library) on) depth-is ∙ stack)
+        (ap (stackOf (p .library) on) visit-depth ∙ stack)
         (behind 2 (omega arith) ∙ head-steps row size o sum 1) (behind 3 (omega arith) ∙ head-sum row size o sum 1)
 
     inside : act on 0 1 ≤ statementCount tables
@@ -169,7 +169,7 @@ module _ (text tables : List ℕ) (p : Program) (fits : Fits text tables p) (row
 
     pub visit-running : Running tables p on
     visit-running =
-        let w1 = depth-is in
+        let w1 = visit-depth in
         let w4 = object-is in
         let w5 = visit-other 5 (omega arith) in
         let w6 = visit-other 6 (omega arith) in
@@ -192,6 +192,6 @@ module _ (text tables : List ℕ) (p : Program) (fits : Fits text tables p) (row
           run = sym visit-run;
           runs = visit-running;
           notes = note-same row on (λ i g h. visit-other i (omega arith));
-          clean = clean-alike row on (visit-other 9 (omega arith)) (λ i g h. visit-other i (omega arith));
+          clean = clean-alike row on (λ i g h. visit-other i (omega arith)) (λ i g h. visit-other i (omega arith)) (λ l. omega (arith, visit-depth));
           locks = λ i g h. visit-other i (omega arith);
         }

@@ -131,6 +131,7 @@ fn call(row: &mut [u32], first: u32, end: u32, argument: u32)
     let depth = words::get(row, 1);
     pass(row);
     new_act(row, depth, first, end, argument);
+    words::put(row, 11, 1);
     words::put(row, 1, std::num::wrapping_add_u32(depth, 1));
     count_step(row);
 }

@@ -1,3 +1,4 @@
 pub mod Aimed
 pub mod Way
 pub mod Sent
+pub mod Outcomes

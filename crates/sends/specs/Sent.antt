@@ -1,12 +1,12 @@
 -- A send, test by test, with names for what the code has read by then; its locks over the state, class by class.
-use Prim.Native.Nat.{ℕ, zero, suc, _+_, _-_, _*_, _%_, _^_, _≤_, _<_}
+use Prim.Native.Nat.{ℕ, zero, suc, _+_, _-_, _*_, _/_, _%_, _^_, _≤_, _<_}
 use native.Mathlib.Omega.{arith}
 use native.Mathlib.Numerals.{add-one}
 use mathlib.Core.Path.{_≡_, refl, sym, ap, ap₂, subst, _∙_, fun-ext}
 use mathlib.Core.Bool.{Bool, true, false, not, cond, _&&_, _||_, true≢false}
 use mathlib.Core.Option.{none, some}
 use mathlib.Core.List.{List, [], _∷_, _++_}
-use lib.ListN.{length, getD, set, length-set}
+use lib.ListN.{length, getD, length-set}
 use lib.Bits.{bitAnd, bitOr}
 use lib.Dec.{eqb, leb, ltb}
 use lib.Count.{trailingZeros}
@@ -14,14 +14,15 @@ use borrow.Author.Tests.{eqb-true, eq-eqb, ne-eqb, eqb-false, leb-false, lt-leb,
 use Rattle.model.specs.Base.{digit, least, fold, upto}
 use Rattle.model.specs.Machine.{object, class, domain, to}
 use Rattle.words.specs.View.{classWord, objectWord, classCount, objectCount, memberCount, memberAt}
-use Rattle.state.specs.Row.{objectRow, newAct, withAct}
+use Rattle.theory.specs.ListLaws.{both-left, both-right}
+use Rattle.state.specs.Row.{lockMarked, withBits, objectRow, newAct, withAct}
 use Rattle.state.specs.Turn.{inTarget, objectFrom, writesAt}
 use Rattle.state.specs.Request.{Wanted, meets, rowMeets, domainLock, locked, begunRow, concerns, withLock, placeIn}
 use Rattle.state.specs.Calls.{After, tablesOf, rowOf, withRow, refused, wanted, inTheWay, grantedOr, sentTo, sentBy}
 use Rattle.refine.specs.Bits.{meets-or}
 use Rattle.refine.specs.State.{with-same, with-tables}
 use Rattle.locks.specs.Clashing.{heldAt, holdsOne, conflictsOf, domainClashes, meets-object, meets-class, meets-domain}
-use Rattle.locks.specs.Locking.{domainBit, lockedTarget, domain-lock, locked-object, locked-class}
+use Rattle.locks.specs.Locking.{placeBit, domainBit, lockedTarget, object-locked, domain-lock, domain-free, locked-object, locked-class}
 use Rattle.turns.specs.Visits.{one-there}
 use Rattle.turns.specs.Bodies.{Bounds, by-place}
 use Rattle.locks.specs.Begun.{First, on, past, firstOf, namedRow, pastRow, entered, begun-is, first-on}
@@ -61,6 +62,15 @@ module _ (tables : List ℕ) (c k n : ℕ) (e : n ≡ classCount tables) where
     pub a-method : k < m → 0 ≡ methodRefusal tables c k
     unfolding methodRefusal
     a-method l = rw (← e, lt-leb n c h, ← q, lt-leb m k l)
+
+pub refusal-lt : (tables : List ℕ) (c k n : ℕ) → n ≡ methodRefusal tables c k → n < 40
+unfolding methodRefusal
+refusal-lt tables c k n e = go (leb (classCount tables) c) (leb (memberCount tables c 1) k) e
+  where
+    go : (a b : Bool) → n ≡ cond a 24 (cond b 36 0) → n < 40
+    go true b f = omega arith
+    go false true f = omega arith
+    go false false f = omega arith
 
 module _ (tables : List ℕ) (c k n : ℕ) (e : n ≡ methodRefusal tables c k) (z : n ≡ 0) where
   passes : (leb (classCount tables) c ≡ false) × (leb (memberCount tables c 1) k ≡ false)
@@ -176,6 +186,10 @@ pub held-more : (ws : List ℕ) (word d n held one : ℕ) → held ≡ heldUpto 
 unfolding heldUpto
 held-more ws word d n held one e q = rw (add-one n) (ap₂ bitOr e (q ∙ ap (λ (row : List ℕ). heldAt row word d) (part-is ws n)))
 
+conflicts-lt : (tables : List ℕ) (c k : ℕ) → conflictsOf tables c k < 4294967296
+unfolding conflictsOf
+conflicts-lt tables c k = omega arith
+
 -- Where that has none of the methods, no slot holds one.
 module _ (ws : List ℕ) (word d methods : ℕ) (few : methods < 4294967296) where
   has-one : (a b : ℕ) → bitAnd (bitOr a b) methods ≡ 0 → (bitAnd a methods ≡ 0) × (bitAnd b methods ≡ 0)
@@ -211,6 +225,18 @@ module _ (ws : List ℕ) (word d methods : ℕ) (few : methods < 4294967296) whe
       go true = omega arith
       go false = omega arith
 
+-- The word of a row that has the locks on a send's object, or on its class without its objects.
+unfoldable pub targetWord : Wanted → ℕ
+targetWord q = cond (eqb (q .kind) 0) (56 + q .number) (120 + q .class)
+
+pub word-of-object : (q : Wanted) → q .kind ≡ 0 → 56 + q .number ≡ targetWord q
+unfolding targetWord
+word-of-object q h = rw (eq-eqb (q .kind) 0 h)
+
+pub word-of-class : (q : Wanted) → (q .kind ≡ 0 → ⊥) → 120 + q .class ≡ targetWord q
+unfolding targetWord
+word-of-class q h = rw (ne-eqb (q .kind) 0 h)
+
 -- The slots that hold a conflict at the target's word are those in the way.
 module _ (text ws : List ℕ) (s : ℕ) (q : Wanted) (methods : ℕ) (m : methods ≡ conflictsOf (tablesOf ws) (q .class) (q .place)) where
   at-word : (word : ℕ) → ((row : List ℕ) → holdsOne row word (q .class) (conflictsOf (tablesOf ws) (q .class) (q .place)) ≡ rowMeets text (tablesOf ws) q row)
@@ -220,11 +246,56 @@ module _ (text ws : List ℕ) (s : ℕ) (q : Wanted) (methods : ℕ) (m : method
       ap (λ (p : ℕ → Bool). gathered p 8)
       (fun-ext (λ t. ap (λ (b : Bool). not (eqb t s) && b) (ap (holdsOne (rowOf ws t) word (q .class)) m ∙ same (rowOf ws t))))
 
-  pub object-in-the-way : q .kind ≡ 0 → gathered (besides s (holding ws (56 + q .number) (q .class) methods)) 8 ≡ gathered (inTheWay text ws s q) 8
+  object-in-the-way : q .kind ≡ 0 → gathered (besides s (holding ws (56 + q .number) (q .class) methods)) 8 ≡ gathered (inTheWay text ws s q) 8
   object-in-the-way h = at-word (56 + q .number) (λ row. meets-object text (tablesOf ws) q row h)
 
-  pub class-in-the-way : q .kind ≡ 1 → gathered (besides s (holding ws (120 + q .class) (q .class) methods)) 8 ≡ gathered (inTheWay text ws s q) 8
+  class-in-the-way : q .kind ≡ 1 → gathered (besides s (holding ws (120 + q .class) (q .class) methods)) 8 ≡ gathered (inTheWay text ws s q) 8
   class-in-the-way h = at-word (120 + q .class) (λ row. meets-class text (tablesOf ws) q row h)
+
+  pub target-in-the-way : q .kind < 2 → gathered (besides s (holding ws (targetWord q) (q .class) methods)) 8 ≡ gathered (inTheWay text ws s q) 8
+  unfolding targetWord
+  target-in-the-way h = go (eqb (q .kind) 0) refl
+    where
+      go : (t : Bool) → eqb (q .kind) 0 ≡ t
+          → gathered (besides s (holding ws (cond t (56 + q .number) (120 + q .class)) (q .class) methods)) 8 ≡ gathered (inTheWay text ws s q) 8
+      go true e = object-in-the-way (eqb-true (q .kind) 0 e)
+      go false e = class-in-the-way (omega (arith, eqb-false (q .kind) 0 e))
+
+-- ---- a send to an object that starts at once
+
+-- No slot holds a conflict on the object, and its class writes the method at its place.
+unfoldable pub startsAtOnce : List ℕ → Wanted → Bool
+unfolding heldUpto conflictsOf writesAt
+startsAtOnce ws q =
+    eqb (bitAnd (heldUpto ws (56 + q .number) (q .class) 8) (conflictsOf (tablesOf ws) (q .class) (q .place))) 0
+    && writesAt (tablesOf ws) (q .class) (q .place) (q .name)
+
+module _ (ws : List ℕ) (q : Wanted) where
+  module _ (held methods : ℕ) (e : held ≡ heldUpto ws (56 + q .number) (q .class) 8) (m : methods ≡ conflictsOf (tablesOf ws) (q .class) (q .place)) where
+    pub held-there : (bitAnd held methods ≡ 0 → ⊥) → false ≡ startsAtOnce ws q
+    unfolding startsAtOnce
+    held-there z = rw (← e, ← m, ne-eqb (bitAnd held methods) 0 z)
+
+    pub free-there : bitAnd held methods ≡ 0 → (t : Bool) → t ≡ writesAt (tablesOf ws) (q .class) (q .place) (q .name) → t ≡ startsAtOnce ws q
+    unfolding startsAtOnce
+    free-there z t w = rw (← e, ← m, z) w
+
+  module _ (once : startsAtOnce ws q ≡ true) where
+    pub at-once-writes : writesAt (tablesOf ws) (q .class) (q .place) (q .name) ≡ true
+    unfolding startsAtOnce
+    at-once-writes = both-right (eqb (bitAnd (heldUpto ws (56 + q .number) (q .class) 8) (conflictsOf (tablesOf ws) (q .class) (q .place))) 0)
+        (writesAt (tablesOf ws) (q .class) (q .place) (q .name)) once
+
+    -- No slot is in its way.
+    pub at-once-free : (text : List ℕ) (s : ℕ) → q .kind ≡ 0 → 0 ≡ gathered (inTheWay text ws s q) 8
+    unfolding startsAtOnce
+    at-once-free text s k =
+        let methods : ℕ = conflictsOf (tablesOf ws) (q .class) (q .place) in
+        let none : bitAnd (heldUpto ws (56 + q .number) (q .class) 8) methods ≡ 0 =
+        eqb-true (bitAnd (heldUpto ws (56 + q .number) (q .class) 8) methods) 0
+        (both-left (eqb (bitAnd (heldUpto ws (56 + q .number) (q .class) 8) methods) 0) (writesAt (tablesOf ws) (q .class) (q .place) (q .name)) once) in
+        sym (none-holds ws (56 + q .number) (q .class) methods (conflicts-lt (tablesOf ws) (q .class) (q .place)) s 8 none)
+        ∙ object-in-the-way text ws s q methods refl k
 
 -- ---- the locks of a domain, class by class
 
@@ -233,11 +304,14 @@ unfolding fold
 fold-append f b [] ys = refl
 fold-append f b (x ∷ xs) ys = fold-append f (f b x) xs ys
 
+bits-length : (row : List ℕ) (i bits : ℕ) → length (withBits row i bits) ≡ length row
+bits-length row i bits = length-set (lockMarked row i) i (bitOr (getD row i 0) bits) ∙ length-set row 10 (bitOr (getD row 10 0) (2 ^ (i / 8 % 32)))
+
 lock-length : (text tables : List ℕ) (q : Wanted) (row : List ℕ) (d : ℕ) → length (domainLock text tables q row d) ≡ length row
 lock-length text tables q row d = go (concerns text tables q d)
   where
     go : (t : Bool) → length (cond t (withLock row (136 + d) (placeIn text tables q d)) row) ≡ length row
-    go true = length-set row (136 + d) (bitOr (getD row (136 + d) 0) (2 ^ placeIn text tables q d))
+    go true = bits-length row (136 + d) (2 ^ placeIn text tables q d)
     go false = refl
 
 module _ (text tables : List ℕ) (q : Wanted) (row : List ℕ) where
@@ -270,7 +344,7 @@ module _ (text tables : List ℕ) (q : Wanted) (row : List ℕ) where
   locked-length = go (eqb (q .kind) 0) (eqb (q .kind) 1)
     where
       once : (r : List ℕ) (i p : ℕ) → length (withLock r i p) ≡ length r
-      once r i p = length-set r i (bitOr (getD r i 0) (2 ^ p))
+      once r i p = bits-length r i (2 ^ p)
 
       go : (a b : Bool) → length (cond a (withLock (withLock row (56 + q .number) (q .place)) (120 + q .class) (q .place))
           (cond b (withLock row (136 + q .class) (q .place)) (lockedBelow (classCount tables)))) ≡ length row
@@ -319,11 +393,14 @@ module _ (text ws : List ℕ) (s : ℕ) (h : Within ws s) (q : Wanted) where
       ∙ ap (λ (n : ℕ). withRow ws s (below n)) (sym (add-one d))
 
   -- One class's lock, in the row lent.
-  pub lock-one : (d bits : ℕ) → bits ≡ domainBit text (tablesOf ws) q d → (row : List ℕ) → length row ≡ 2264
-      → row ≡ set (part ws s) (136 + d) (bitOr (getD (part ws s) (136 + d) 0) bits) → lent ws s row ≡ withRow ws s (domainLock text (tablesOf ws) q (rowOf ws s) d)
-  lock-one d bits b row long r =
+  pub lock-one : (d bits : ℕ) → bits ≡ domainBit text (tablesOf ws) q d → (bits ≡ 0 → ⊥) → (row : List ℕ) → length row ≡ 2264
+      → row ≡ withBits (part ws s) (136 + d) bits → lent ws s row ≡ withRow ws s (domainLock text (tablesOf ws) q (rowOf ws s) d)
+  lock-one d bits b taken row long r =
       lent-is ws s h row (domainLock text (tablesOf ws) q (rowOf ws s) d) long
-      (r ∙ ap₂ (λ (l : List ℕ) (x : ℕ). set l (136 + d) (bitOr (getD l (136 + d) 0) x)) (part-is ws s) b ∙ sym (domain-lock text (tablesOf ws) q d (rowOf ws s)))
+      (r ∙ ap (λ (l : List ℕ). withBits l (136 + d) bits) (part-is ws s) ∙ domain-lock text (tablesOf ws) q d (rowOf ws s) bits b taken)
+
+  pub lock-free : (d bits : ℕ) → bits ≡ domainBit text (tablesOf ws) q d → bits ≡ 0 → ws ≡ withRow ws s (domainLock text (tablesOf ws) q (rowOf ws s) d)
+  lock-free d bits b free = sym (with-own ws s h) ∙ ap (withRow ws s) (domain-free text (tablesOf ws) q d (rowOf ws s) bits b free)
 
   -- ---- granted, or 40
 
@@ -350,14 +427,17 @@ module _ (text ws : List ℕ) (s : ℕ) (h : Within ws s) (q : Wanted) where
       ∙ ap₂ (λ (x l : List ℕ). withRow x s l) e (ap₂ (λ (t l : List ℕ). begunRow text t q l) tables own)
       ∙ with-with ws s h row (begunRow text (tablesOf ws) q row) long (begun-length text (tablesOf ws) q row ∙ long)
 
-  -- Both in the row lent, of a send to an object.
-  pub taken-lent : ToObject (tablesOf ws) q → (f : First) → f ≡ firstOf text (tablesOf ws) q → (row row′ : List ℕ) → row ≡ lockedTarget q (part ws s)
+  -- Both in the row lent, of a send to an object: its locks are held on the object and on its class.
+  pub taken-lent : ToObject (tablesOf ws) q → (f : First) → f ≡ firstOf text (tablesOf ws) q → (bits : ℕ) → bits ≡ placeBit (q .place)
+      → (one row row′ : List ℕ) → one ≡ withBits (part ws s) (56 + q .number) bits → row ≡ withBits one (120 + q .class) bits
       → length row′ ≡ 2264 → row′ ≡ entered q f row
       → lent ws s row′ ≡ withRow ws s (begunRow text (tablesOf ws) q (locked text (tablesOf ws) q (rowOf ws s)))
-  taken-lent t f e row row′ r long r′ =
+  taken-lent t f e bits b one row row′ o r long r′ =
       let held : List ℕ = locked text (tablesOf ws) q (rowOf ws s) in
       let is : row ≡ held =
-      r ∙ ap (lockedTarget q) (part-is ws s) ∙ target-locked text (tablesOf ws) q (rowOf ws s) (omega (arith, t .kind-is)) (t .few) in
+      r ∙ ap (λ (l : List ℕ). withBits l (120 + q .class) bits) (o ∙ ap (λ (l : List ℕ). withBits l (56 + q .number) bits) (part-is ws s))
+      ∙ ap (λ (x : ℕ). withBits (withBits (rowOf ws s) (56 + q .number) x) (120 + q .class) x) b ∙ object-locked q (rowOf ws s) (t .kind-is)
+      ∙ target-locked text (tablesOf ws) q (rowOf ws s) (omega (arith, t .kind-is)) (t .few) in
       lent-is ws s h row′ (begunRow text (tablesOf ws) q held) long (r′ ∙ ap₂ (entered q) e is ∙ sym (begun-is text (tablesOf ws) q held))
 
   pub begun-lent : (f : First) → f ≡ firstOf text (tablesOf ws) q → (row : List ℕ) → length row ≡ 2264 → row ≡ entered q f (part ws s)

@@ -7,10 +7,10 @@ ghost use Rattle.state.specs.Calls.{stateWords, inTheWay};
 ghost use Rattle.locks.specs.Asked.{asked};
 ghost use Rattle.slots.specs.Lent.{Within};
 ghost use Rattle.sends.specs.Way.{gathered, besides};
-ghost use Rattle.sends.specs.Sent.{heldUpto, holding};
+ghost use Rattle.sends.specs.Sent.{heldUpto, holding, targetWord};
 
 // What the eight slots hold at a word of their rows, or on the class with its objects.
-fn held_by_all(state: &[u32], word: usize, class: u32) -> u32
+pub(crate) fn held_by_all(state: &[u32], word: usize, class: u32) -> u32
     requires { ⌜ stateWords ≤ length (now state) ⌝ }
     ensures { λ r. ⌜ r ≡ heldUpto (now (state .entry)) word class 8 ⌝ }
 {
@@ -58,25 +58,23 @@ fn other_holders(state: &[u32], slot: u32, word: usize, class: u32, methods: u32
     }
 }
 
-// The slots in the way of a send to an object: two words of each row. Mostly no slot holds a conflict, and so none is asked.
-pub(crate) fn object_clashing(text: &[u8], state: &[u32], slot: u32, wanted: Wanted) -> u32
-    requires { ⌜ Within (now state) slot × (wanted .kind ≡ 0) ⌝ }
-    ensures { λ r. ⌜ r ≡ gathered (inTheWay (now (text .entry)) (now (state .entry)) slot (asked wanted)) 8 ⌝ }
+// The word of a row that has the locks on a send's object, or on its class without its objects.
+fn target_word(wanted: Wanted) -> usize
+    ensures { λ r. ⌜ r ≡ targetWord (asked wanted) ⌝ }
 {
-    let word = 56 + wanted.number as usize;
-    let methods = locks::conflicts(&state[0..8072], wanted.class, wanted.place);
-    if held_by_all(state, word, wanted.class) & methods == 0 {
-        return 0;
+    if wanted.kind == 0 {
+        56 + wanted.number as usize
+    } else {
+        120 + wanted.class as usize
     }
-    other_holders(state, slot, word, wanted.class, methods)
 }
 
-// The slots in the way of a send to a class's own objects.
-fn class_clashing(text: &[u8], state: &[u32], slot: u32, wanted: Wanted) -> u32
-    requires { ⌜ Within (now state) slot × (wanted .kind ≡ 1) ⌝ }
+// The slots in the way of a send to an object or to a class's own objects.
+fn target_clashing(text: &[u8], state: &[u32], slot: u32, wanted: Wanted) -> u32
+    requires { ⌜ Within (now state) slot × (wanted .kind < 2) ⌝ }
     ensures { λ r. ⌜ r ≡ gathered (inTheWay (now (text .entry)) (now (state .entry)) slot (asked wanted)) 8 ⌝ }
 {
-    let word = 120 + wanted.class as usize;
+    let word = target_word(wanted);
     let methods = locks::conflicts(&state[0..8072], wanted.class, wanted.place);
     other_holders(state, slot, word, wanted.class, methods)
 }
@@ -110,13 +108,13 @@ fn domain_clashing(text: &[u8], state: &[u32], slot: u32, wanted: Wanted) -> u32
     mask
 }
 
-// The slots in the way of a send to a class's own objects or to a domain.
+// The slots in the way of a send.
 pub(crate) fn clashing(text: &[u8], state: &[u32], slot: u32, wanted: Wanted) -> u32
-    requires { ⌜ Within (now state) slot × (0 < wanted .kind) ⌝ }
+    requires { ⌜ Within (now state) slot ⌝ }
     ensures { λ r. ⌜ r ≡ gathered (inTheWay (now (text .entry)) (now (state .entry)) slot (asked wanted)) 8 ⌝ }
 {
-    if wanted.kind == 1 {
-        class_clashing(text, state, slot, wanted)
+    if wanted.kind < 2 {
+        target_clashing(text, state, slot, wanted)
     } else {
         domain_clashing(text, state, slot, wanted)
     }

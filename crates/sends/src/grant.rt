@@ -1,12 +1,12 @@
 // A send that has passed its tests: 40, or its locks and the start of its message. The rules are in
 // crates/state/specs/Request.antt.
 use super::clash::clashing;
-use super::clash::object_clashing;
+use super::clash::held_by_all;
 use locks::First;
 use locks::Wanted;
-use slots::Outcome;
 ghost use Prim.Native.Nat.{ℕ, _≤_, _<_};
 ghost use mathlib.Core.Path.{_≡_};
+ghost use mathlib.Core.Bool.{true};
 ghost use mathlib.Core.List.{List};
 ghost use lib.ListN.{length};
 ghost use Rattle.model.specs.Base.{least};
@@ -14,10 +14,10 @@ ghost use Rattle.words.specs.View.{classCount};
 ghost use Rattle.state.specs.Request.{domainLock, locked, begunRow};
 ghost use Rattle.state.specs.Calls.{stateWords, tablesOf, rowOf, withRow, inTheWay, grantedOr};
 ghost use Rattle.locks.specs.Asked.{asked};
-ghost use Rattle.locks.specs.Begun.{saidFirst, firstOf};
 ghost use Rattle.slots.specs.Told.{Leaves};
 ghost use Rattle.slots.specs.Lent.{Within};
-ghost use Rattle.sends.specs.Sent.{ToObject, lockedBelow};
+ghost use Rattle.sends.specs.Outcomes.{outcomeOf};
+ghost use Rattle.sends.specs.Sent.{ToObject, lockedBelow, startsAtOnce};
 
 // A domain's lock on one class, by that class's own method of the name; none where the send does not lock it.
 fn lock_class(text: &[u8], state: &mut [u32], slot: u32, wanted: Wanted, class: u32)
@@ -25,6 +25,9 @@ fn lock_class(text: &[u8], state: &mut [u32], slot: u32, wanted: Wanted, class: 
     ensures { λ _. ⌜ now (state .exit) ≡ withRow (now (state .entry)) slot (domainLock (now (text .entry)) (tablesOf (now (state .entry))) (asked wanted) (rowOf (now (state .entry)) slot) class) ⌝ }
 {
     let bits = locks::domain_bit(text, &state[0..8072], wanted, class);
+    if bits == 0 {
+        return;
+    }
     let start = 8072 + slot as usize * 2264;
     let end = start + 2264;
     locks::add_lock(&mut state[start..end], 136 + class as usize, bits);
@@ -44,9 +47,9 @@ fn lock_domain(text: &[u8], state: &mut [u32], slot: u32, wanted: Wanted)
     }
 }
 
-// The locks of a send to a class's own objects or to a domain, in its slot's row.
+// The locks of a send, in its slot's row.
 fn lock(text: &[u8], state: &mut [u32], slot: u32, wanted: Wanted)
-    requires { ⌜ Within (now state) slot × (wanted .place < 32) × (0 < wanted .kind) ⌝ }
+    requires { ⌜ Within (now state) slot × (wanted .place < 32) ⌝ }
     ensures { λ _. ⌜ now (state .exit) ≡ withRow (now (state .entry)) slot (locked (now (text .entry)) (tablesOf (now (state .entry))) (asked wanted) (rowOf (now (state .entry)) slot)) ⌝ }
 {
     if 2 <= wanted.kind {
@@ -69,15 +72,61 @@ fn start_message(text: &[u8], state: &mut [u32], slot: u32, wanted: Wanted)
     locks::enter(&mut state[start..end], wanted, first);
 }
 
-// Where the message of a send to an object starts. Where the object's class writes the method, its body is at its place; else
-// a copy of the send is handed on, so that the send itself is never in memory.
-fn first_of_object(text: &[u8], state: &[u32], wanted: Wanted) -> First
-    requires { ⌜ (stateWords ≤ length (now state)) × ToObject (tablesOf (now state)) (asked wanted) ⌝ }
-    ensures { λ r. ⌜ saidFirst r ≡ firstOf (now (text .entry)) (tablesOf (now (state .entry))) (asked wanted) ⌝ }
+// The number of a send: 40 and the lowest slot in its way; 0 where none is, and then it has its locks and its message is at its
+// start.
+pub(crate) fn grant(text: &[u8], state: &mut [u32], slot: u32, wanted: Wanted) -> u32
+    requires { ⌜ Within (now state) slot × (wanted .place < 32) ⌝ }
+    ensures { λ r. ⌜ ((values : List ℕ) → Leaves (grantedOr (now (text .entry)) (now (state .entry)) values slot (asked wanted)
+        (least (inTheWay (now (text .entry)) (now (state .entry)) slot (asked wanted)) 8)) (outcomeOf r) (now (state .exit)) values) ⌝ }
 {
-    if turns::body::writes_at(&state[0..8072], wanted.class, wanted.place, wanted.name) {
-        let body = turns::body::body_of(&state[0..8072], wanted.class, wanted.place);
-        return First::On(wanted.number, body.first, body.end);
+    let mask = clashing(text, state, slot, wanted);
+    if mask != 0 {
+        return 40 + u32::trailing_zeros(mask);
+    }
+    lock(text, state, slot, wanted);
+    start_message(text, state, slot, wanted);
+    0
+}
+
+// A send to an object can start at once: no slot holds a conflict, and the body is at its place in the object's class.
+fn starts_at_once(state: &[u32], wanted: Wanted) -> bool
+    requires { ⌜ stateWords ≤ length (now state) ⌝ }
+    ensures { λ r. ⌜ r ≡ startsAtOnce (now (state .entry)) (asked wanted) ⌝ }
+{
+    let word = 56 + wanted.number as usize;
+    let methods = locks::conflicts(&state[0..8072], wanted.class, wanted.place);
+    if held_by_all(state, word, wanted.class) & methods != 0 {
+        return false;
+    }
+    turns::body::writes_at(&state[0..8072], wanted.class, wanted.place, wanted.name)
+}
+
+// The locks of such a send, and its message at its start, in its slot's row.
+fn take_object(state: &mut [u32], slot: u32, wanted: Wanted)
+    requires { ⌜ Within (now state) slot × ToObject (tablesOf (now state)) (asked wanted) × (startsAtOnce (now state) (asked wanted) ≡ true) ⌝ }
+    ensures { λ _. ⌜ ((text : List ℕ) → now (state .exit) ≡ withRow (now (state .entry)) slot (begunRow text (tablesOf (now (state .entry))) (asked wanted)
+        (locked text (tablesOf (now (state .entry))) (asked wanted) (rowOf (now (state .entry)) slot)))) ⌝ }
+{
+    let body = turns::body::body_of(&state[0..8072], wanted.class, wanted.place);
+    let start = 8072 + slot as usize * 2264;
+    let end = start + 2264;
+    let row = &mut state[start..end];
+    let bits = locks::place_bit(wanted.place);
+    locks::add_lock(row, 56 + wanted.number as usize, bits);
+    locks::add_lock(row, 120 + wanted.class as usize, bits);
+    locks::enter(row, wanted, First::On(wanted.number, body.first, body.end));
+}
+
+// The number of a send to an object. Most start at once; the others go the way of every send, with copies of what is lent, so
+// that nothing of it need be in memory for those.
+pub(crate) fn grant_object(text: &[u8], state: &mut [u32], slot: u32, wanted: Wanted) -> u32
+    requires { ⌜ Within (now state) slot × ToObject (tablesOf (now state)) (asked wanted) ⌝ }
+    ensures { λ r. ⌜ ((values : List ℕ) → Leaves (grantedOr (now (text .entry)) (now (state .entry)) values slot (asked wanted)
+        (least (inTheWay (now (text .entry)) (now (state .entry)) slot (asked wanted)) 8)) (outcomeOf r) (now (state .exit)) values) ⌝ }
+{
+    if starts_at_once(state, wanted) {
+        take_object(state, slot, wanted);
+        return 0;
     }
     let copy = Wanted {
         kind: wanted.kind,
@@ -87,48 +136,5 @@ fn first_of_object(text: &[u8], state: &[u32], wanted: Wanted) -> First
         name: wanted.name,
         argument: wanted.argument,
     };
-    locks::first_object(text, &state[0..8072], copy)
-}
-
-// The locks of a send to an object, and its message at its start, in its slot's row.
-fn take_object(text: &[u8], state: &mut [u32], slot: u32, wanted: Wanted, first: First)
-    requires { ⌜ Within (now state) slot × ToObject (tablesOf (now state)) (asked wanted) × (saidFirst first ≡ firstOf (now text) (tablesOf (now state)) (asked wanted)) ⌝ }
-    ensures { λ _. ⌜ now (state .exit) ≡ withRow (now (state .entry)) slot (begunRow (now (text .entry)) (tablesOf (now (state .entry))) (asked wanted)
-        (locked (now (text .entry)) (tablesOf (now (state .entry))) (asked wanted) (rowOf (now (state .entry)) slot))) ⌝ }
-{
-    let start = 8072 + slot as usize * 2264;
-    let end = start + 2264;
-    let row = &mut state[start..end];
-    locks::lock_target(row, wanted);
-    locks::enter(row, wanted, first);
-}
-
-// 40 with the lowest slot in the way of a send to a class or a domain; else it has its locks and its message is at its start.
-pub(crate) fn grant(text: &[u8], state: &mut [u32], slot: u32, wanted: Wanted) -> Outcome
-    requires { ⌜ Within (now state) slot × (wanted .place < 32) × (0 < wanted .kind) ⌝ }
-    ensures { λ r. ⌜ ((values : List ℕ) → Leaves (grantedOr (now (text .entry)) (now (state .entry)) values slot (asked wanted)
-        (least (inTheWay (now (text .entry)) (now (state .entry)) slot (asked wanted)) 8)) r (now (state .exit)) values) ⌝ }
-{
-    let mask = clashing(text, state, slot, wanted);
-    if mask != 0 {
-        return Outcome::Held(u32::trailing_zeros(mask));
-    }
-    lock(text, state, slot, wanted);
-    start_message(text, state, slot, wanted);
-    Outcome::Done
-}
-
-// The same for a send to an object, without a look at any other.
-pub(crate) fn grant_object(text: &[u8], state: &mut [u32], slot: u32, wanted: Wanted) -> Outcome
-    requires { ⌜ Within (now state) slot × ToObject (tablesOf (now state)) (asked wanted) ⌝ }
-    ensures { λ r. ⌜ ((values : List ℕ) → Leaves (grantedOr (now (text .entry)) (now (state .entry)) values slot (asked wanted)
-        (least (inTheWay (now (text .entry)) (now (state .entry)) slot (asked wanted)) 8)) r (now (state .exit)) values) ⌝ }
-{
-    let holders = object_clashing(text, state, slot, wanted);
-    if holders != 0 {
-        return Outcome::Held(u32::trailing_zeros(holders));
-    }
-    let first = first_of_object(text, state, wanted);
-    take_object(text, state, slot, wanted, first);
-    Outcome::Done
+    grant(&text[0..], &mut state[0..], slot, copy)
 }

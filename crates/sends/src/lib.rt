@@ -6,7 +6,7 @@ use grant::grant;
 use grant::grant_object;
 use locks::Wanted;
 use slots::Outcome;
-ghost use Prim.Native.Nat.{ℕ, _<_};
+ghost use Prim.Native.Nat.{ℕ};
 ghost use mathlib.Core.Path.{_≡_};
 ghost use mathlib.Core.List.{List};
 ghost use Rattle.model.specs.Service.{send};
@@ -16,6 +16,7 @@ ghost use Rattle.locks.specs.Asked.{asked};
 ghost use Rattle.slots.specs.Told.{Leaves};
 ghost use Rattle.slots.specs.Lent.{Within};
 ghost use Rattle.sends.specs.Aimed.{aimed};
+ghost use Rattle.sends.specs.Outcomes.{outcomeOf};
 ghost use Rattle.sends.specs.Sent.{ObjectOf, methodRefusal, classSent};
 
 const METHODS: u32 = 1;
@@ -65,7 +66,7 @@ fn wanted_of(
     }
 }
 
-// A send to a class's own objects (kind 1) or to a domain (kind 2), whose methods are those of a class.
+// The number of a send to a class's own objects (kind 1) or to a domain (kind 2), whose methods are those of a class.
 fn send_to(
     text: &[u8],
     state: &mut [u32],
@@ -75,13 +76,13 @@ fn send_to(
     class: u32,
     place: u32,
     argument: u32,
-) -> Outcome
-    requires { ⌜ Within (now state) slot × (0 < kind) ⌝ }
-    ensures { λ r. ⌜ ((values : List ℕ) → Leaves (sentTo (now (text .entry)) (now (state .entry)) values slot kind number class place argument) r (now (state .exit)) values) ⌝ }
+) -> u32
+    requires { ⌜ Within (now state) slot ⌝ }
+    ensures { λ r. ⌜ ((values : List ℕ) → Leaves (sentTo (now (text .entry)) (now (state .entry)) values slot kind number class place argument) (outcomeOf r) (now (state .exit)) values) ⌝ }
 {
     let fault = method_refusal(&state[0..8072], class, place);
     if fault != 0 {
-        return Outcome::Refused(fault);
+        return fault;
     }
     let wanted = wanted_of(&state[0..8072], kind, number, class, place, argument);
     grant(text, state, slot, wanted)
@@ -96,19 +97,19 @@ fn send_to_object(
     class: u32,
     place: u32,
     argument: u32,
-) -> Outcome
+) -> u32
     requires { ⌜ Within (now state) slot × ObjectOf (tablesOf (now state)) number class ⌝ }
-    ensures { λ r. ⌜ ((values : List ℕ) → Leaves (sentTo (now (text .entry)) (now (state .entry)) values slot 0 number class place argument) r (now (state .exit)) values) ⌝ }
+    ensures { λ r. ⌜ ((values : List ℕ) → Leaves (sentTo (now (text .entry)) (now (state .entry)) values slot 0 number class place argument) (outcomeOf r) (now (state .exit)) values) ⌝ }
 {
     let refusal = method_refusal(&state[0..8072], class, place);
     if refusal != 0 {
-        return Outcome::Refused(refusal);
+        return refusal;
     }
     let wanted = wanted_of(&state[0..8072], 0, number, class, place, argument);
     grant_object(text, state, slot, wanted)
 }
 
-// A send to an object; 36 where there is none.
+// The number of a send to an object; 36 where there is none.
 fn send_object(
     text: &[u8],
     state: &mut [u32],
@@ -116,18 +117,18 @@ fn send_object(
     number: u32,
     place: u32,
     argument: u32,
-) -> Outcome
+) -> u32
     requires { ⌜ Within (now state) slot ⌝ }
-    ensures { λ r. ⌜ ((values : List ℕ) → Leaves (sentBy (now (text .entry)) (now (state .entry)) values slot (to (object number) place argument)) r (now (state .exit)) values) ⌝ }
+    ensures { λ r. ⌜ ((values : List ℕ) → Leaves (sentBy (now (text .entry)) (now (state .entry)) values slot (to (object number) place argument)) (outcomeOf r) (now (state .exit)) values) ⌝ }
 {
     if words::object_count(&state[0..8072]) <= number {
-        return Outcome::Refused(36);
+        return 36;
     }
     let class = words::object_word(&state[0..8072], number, 1);
     send_to_object(text, state, slot, number, class, place, argument)
 }
 
-// A send to a class's own objects (kind 1) or to its domain (kind 2); 36 where there is no such class.
+// The number of a send to a class's own objects (kind 1) or to its domain (kind 2); 36 where there is no such class.
 fn send_class(
     text: &[u8],
     state: &mut [u32],
@@ -136,14 +137,63 @@ fn send_class(
     class: u32,
     place: u32,
     argument: u32,
-) -> Outcome
-    requires { ⌜ Within (now state) slot × (0 < kind) ⌝ }
-    ensures { λ r. ⌜ ((values : List ℕ) → Leaves (classSent (now (text .entry)) (now (state .entry)) values slot kind class place argument) r (now (state .exit)) values) ⌝ }
+) -> u32
+    requires { ⌜ Within (now state) slot ⌝ }
+    ensures { λ r. ⌜ ((values : List ℕ) → Leaves (classSent (now (text .entry)) (now (state .entry)) values slot kind class place argument) (outcomeOf r) (now (state .exit)) values) ⌝ }
 {
     if words::class_count(&state[0..8072]) <= class {
-        return Outcome::Refused(36);
+        return 36;
     }
     send_to(text, state, slot, kind, class, class, place, argument)
+}
+
+// The number of a send, by its target: 0 where it is granted; 24 or 36; 40 and the slot that is in its way. A number and not yet
+// an outcome, so that it stays in a register; copies of what is lent for the rarer targets, as in `grant_object`.
+fn send_number(
+    text: &[u8],
+    state: &mut [u32],
+    slot: u32,
+    target: Target,
+    place: u32,
+    argument: u32,
+) -> u32
+    requires { ⌜ Within (now state) slot ⌝ }
+    ensures { λ r. ⌜ ((values : List ℕ) → Leaves (sentBy (now (text .entry)) (now (state .entry)) values slot (to (aimed target) place argument)) (outcomeOf r) (now (state .exit)) values) ⌝ }
+{
+    match target {
+        Target::Object(object) => send_object(text, state, slot, object, place, argument),
+        Target::Class(class) => send_class(
+            &text[0..],
+            &mut state[0..],
+            slot,
+            1,
+            class,
+            place,
+            argument,
+        ),
+        Target::Domain(class) => send_class(
+            &text[0..],
+            &mut state[0..],
+            slot,
+            2,
+            class,
+            place,
+            argument,
+        ),
+    }
+}
+
+// What a send's number says.
+fn outcome_of(number: u32) -> Outcome
+    ensures { λ r. ⌜ r ≡ outcomeOf number ⌝ }
+{
+    if number == 0 {
+        return Outcome::Done;
+    }
+    if number < 40 {
+        return Outcome::Refused(number);
+    }
+    Outcome::Held(number - 40)
 }
 
 // Sends a message: the method at a place of the target's class, with an argument. Its locks are held until commit or abort.
@@ -158,13 +208,10 @@ pub fn send(
 ) -> Outcome
     ensures { λ r. ⌜ Leaves (called (now (text .entry)) (now (state .entry)) (now (values .entry)) (send slot (to (aimed target) place argument))) r (now (state .exit)) (now (values .entry)) ⌝ }
 {
-    let number = slots::idle_refusal(text, state, values, slot);
-    if number != 0 {
-        return Outcome::Refused(number);
+    let refused = slots::idle_refusal(text, state, values, slot);
+    if refused != 0 {
+        return Outcome::Refused(refused);
     }
-    match target {
-        Target::Object(object) => send_object(text, state, slot, object, place, argument),
-        Target::Class(class) => send_class(text, state, slot, 1, class, place, argument),
-        Target::Domain(class) => send_class(text, state, slot, 2, class, place, argument),
-    }
+    let number = send_number(text, state, slot, target, place, argument);
+    outcome_of(number)
 }

@@ -8,7 +8,7 @@ use lib.Dec.{eqb, ltb}
 use Rattle.model.specs.Base.{fold, upto, any}
 use Rattle.model.specs.Library.{memberPlace}
 use Rattle.words.specs.View.{nameOf, objectWord, classWord, classCount, objectCount, memberCount, membersOf, bit}
-use Rattle.state.specs.Row.{objectRow}
+use Rattle.state.specs.Row.{withBits, objectRow}
 use Rattle.state.specs.Turn.{objectFrom, bodyAt}
 
 -- A target, an object, a class or a domain by its kind 0, 1 or 2 and its number, with the class in which the method is
@@ -62,7 +62,7 @@ rowMeets text tables q row =
     (any (λ d. concerns text tables q d && classMeets row d (commutingIn text tables q d)) (upto (λ d. d) (classCount tables))))
 
 abbrev pub withLock : List ℕ → ℕ → ℕ → List ℕ
-withLock row i place = set row i (bitOr (getD row i 0) (2 ^ place))
+withLock row i place = withBits row i (2 ^ place)
 
 -- The row with a domain's lock on class d, where the send locks it.
 abbrev pub domainLock : List ℕ → List ℕ → Wanted → List ℕ → ℕ → List ℕ

@@ -1,7 +1,8 @@
 -- A slot's row of the state, 2,264 words, and what a turn does to it. A closed slot's row is all zero.
 --   0 phase: 0 closed, 1 open, 2 a message runs · 1 how many activations · 2 steps on this object · 3 the replies' sum
 --   4 the object that the message is on · 5 target: 0 an object, 1 a class, 2 a domain · 6 its number
---   7 the method's name (place * 32 + length) · 8 the argument · 9 whether a value was set: 0 or 1 · 10 to 15 spare
+--   7 the method's name (place * 32 + length) · 8 the argument · 9 whether a value was set: 0 or 1
+--   10 where locks were taken: bit b for words 8 * b to 8 * b + 7 · 11 whether a self-call was made: 0 or 1 · 12 to 15 spare
 --   16 + k * 5    activation k: its next statement, the statement past its last, its arg, its got, its reply
 --   56 + o        object o's locks, bit j for method j of its class
 --   120 + c       class c's locks (M, false) · 136 + c its locks (M, true), bit j for method j
@@ -88,6 +89,16 @@ notedRow row k v =
     let marks = getD row (152 + k / 32) 0 in
     cond (ltb k 2048) (cond (bit marks (k % 32)) row (set (set (set row 9 1) (152 + k / 32) (bitOr marks (2 ^ (k % 32)))) (216 + k) v)) row
 
+-- ---- locks
+
+-- Word i has locks.
+abbrev pub lockMarked : List ℕ → ℕ → List ℕ
+lockMarked row i = set row 10 (bitOr (getD row 10 0) (2 ^ (i / 8 % 32)))
+
+-- Bits added to lock word i.
+abbrev pub withBits : List ℕ → ℕ → ℕ → List ℕ
+withBits row i bits = set (lockMarked row i) i (bitOr (getD row i 0) bits)
+
 -- ---- what each turn leaves
 
 unfoldable pub skipRow : List ℕ → List ℕ
@@ -98,7 +109,7 @@ unfoldable pub callRow : ℕ → ℕ → ℕ → List ℕ → List ℕ
 unfolding passed newAct stepped
 callRow first end argument row =
     let d = getD row 1 0 in
-    stepped (set (newAct (passed row) d first end argument) 1 ((d + 1) % 4294967296))
+    stepped (set (set (newAct (passed row) d first end argument) 11 1) 1 ((d + 1) % 4294967296))
 
 unfoldable pub replyRow : ℕ → List ℕ → List ℕ
 unfolding act withAct stepped
@@ -125,12 +136,30 @@ unfoldable pub unnoted : List ℕ → List ℕ
 unfolding bit putBack
 unnoted row = putBack (λ i. cond (ltb i 216) none (noteIf (bit (getD row (152 + (i - 216) / 32) 0) ((i - 216) % 32)) 0)) row
 
--- "frees the slot": the words before the marks are 0, and where a value was set the marks and the notes that were made. No
--- other word is anything but 0 in a row that represents an open slot, so that it is blank then
--- (crates/refine/specs/Freeing.antt); and 8 KiB need not be written.
+-- The words that pass the test are 0.
+unfoldable pub zeroed : (ℕ → Bool) → List ℕ → List ℕ
+unfolding putBack
+zeroed p row = putBack (λ i. noteIf (p i) 0) row
+
+-- The words where locks were taken are 0.
+unfoldable pub unlocked : List ℕ → List ℕ
+unfolding zeroed bit
+unlocked row = zeroed (λ i. bit (getD row 10 0) (i / 8)) row
+
+-- What a transaction that set no value has written is 0: its locks, its message, the first activation, and the others where
+-- it made a self-call.
+unfoldable pub released : List ℕ → List ℕ
+unfolding unlocked
+released row =
+    let rest = unlocked row in
+    cond (eqb (getD row 11 0) 0) (replicate 24 0 ++ drop 24 rest) (replicate 56 0 ++ drop 56 rest)
+
+-- "frees the slot": where a value was set the words before the notes are 0, and the notes that were made. No other word is
+-- anything but 0 in a row that represents an open slot, so that it is blank then (crates/refine/specs/Freeing.antt); and 8 KiB
+-- need not be written.
 unfoldable pub freed : List ℕ → List ℕ
-unfolding unnoted
-freed row = cond (eqb (getD row 9 0) 0) (replicate 152 0 ++ drop 152 row) (replicate 216 0 ++ drop 216 (unnoted row))
+unfolding unnoted released
+freed row = cond (eqb (getD row 9 0) 0) (released row) (replicate 216 0 ++ drop 216 (unnoted row))
 
 -- The transaction undone: "puts back .. and frees the slot".
 abbrev pub undoneTo : Said → List ℕ → List ℕ → Left

@@ -1,13 +1,14 @@
 // The undo notes of a slot's row: for each value a mark, and the value that it had before the transaction set it; and the row
 // freed. The row's layout is in crates/state/specs/Row.antt.
-ghost use Prim.Native.Nat.{_+_, _%_, _≤_, _<_};
+ghost use Prim.Native.Nat.{_+_, _/_, _%_, _≤_, _<_};
 ghost use mathlib.Core.Path.{_≡_};
 ghost use mathlib.Core.Bool.{cond};
 ghost use mathlib.Core.List.{_++_};
 ghost use lib.ListN.{length, drop, set, replicate};
+ghost use lib.Dec.{eqb};
 ghost use Rattle.model.specs.Undo.{restored, putBack};
 ghost use Rattle.words.specs.View.{bit};
-ghost use Rattle.state.specs.Row.{noteAt, notedRow, unnoted, freed};
+ghost use Rattle.state.specs.Row.{noteAt, notedRow, unnoted, zeroed, unlocked, released, freed};
 
 // The value that a set value had before; its own value where it was not set.
 fn noted_or(row: &[u32], place: usize, value: u32) -> u32
@@ -90,13 +91,54 @@ fn clear_marked(row: &mut [u32])
     }
 }
 
+// Eight words are 0.
+fn clear_eight(row: &mut [u32], eight: u32)
+    requires { ⌜ (length (now row) ≡ 2264) × (eight < 32) ⌝ }
+    ensures { λ _. ⌜ now (row .exit) ≡ zeroed (λ i. eqb (i / 8) eight) (now (row .entry)) ⌝ }
+{
+    let mut place = eight as usize * 8;
+    let end = place + 8;
+    while place < end {
+        row[place] = 0;
+        place += 1;
+    }
+}
+
+// The words where locks were taken are 0: a mark for each eight of them.
+fn clear_locks(row: &mut [u32])
+    requires { ⌜ length (now row) ≡ 2264 ⌝ }
+    ensures { λ _. ⌜ now (row .exit) ≡ unlocked (now (row .entry)) ⌝ }
+{
+    let mut left = words::get(row, 10);
+    while left != 0 {
+        let eight = u32::trailing_zeros(left);
+        clear_eight(row, eight);
+        left = left - (1u32 << eight);
+    }
+}
+
+// The words that a transaction wrote that set no value are 0: its locks, its message and its activations, the first alone where
+// it made no self-call.
+fn release(row: &mut [u32])
+    requires { ⌜ length (now row) ≡ 2264 ⌝ }
+    ensures { λ _. ⌜ now (row .exit) ≡ released (now (row .entry)) ⌝ }
+{
+    let calls = words::get(row, 11);
+    clear_locks(row);
+    if calls == 0 {
+        clear_first(row, 24);
+        return;
+    }
+    clear_first(row, 56);
+}
+
 // The slot is closed: what its transaction wrote in the row is 0. Where no value was set there are no marks and no notes.
 pub fn clear(row: &mut [u32])
     requires { ⌜ length (now row) ≡ 2264 ⌝ }
     ensures { λ _. ⌜ now (row .exit) ≡ freed (now (row .entry)) ⌝ }
 {
     if words::get(row, 9) == 0 {
-        clear_first(row, 152);
+        release(row);
         return;
     }
     clear_marked(row);

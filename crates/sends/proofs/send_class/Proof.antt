@@ -1,13 +1,14 @@
 -- `send_class` meets its contract: the class is there.
 use borrow.Author.Needs.{needs}
-use mathlib.Core.Path.{refl}
+use native.Mathlib.Omega.{arith}
 use Rattle.slots.specs.Phases.{leaves-as}
+use Rattle.sends.specs.Outcomes.{leaves-refused}
 use Rattle.sends.specs.Sent.{class-none, class-there}
 use Rattle.sends.proofs.send_class.Statement.{statement}
 use Rattle.sends.proofs.send_class.Tie as tie
 
 returns : tie.Need-returns
-returns c = λ values. leaves-as (class-none _ _ values _ _ _ _ _ _ (c .before .class-count .ensures) (c .if1 .taken)) (record { says = refl; words-are = refl; values-are = refl })
+returns c = λ values. leaves-as (class-none _ _ values _ _ _ _ _ _ (c .before .class-count .ensures) (c .if1 .taken)) (leaves-refused _ values 36 (omega arith) (omega arith))
 
 returns-2 : tie.Need-returns-2
 returns-2 c =

@@ -1,14 +1,14 @@
 -- `send_object` meets its contract: the object is there.
 use borrow.Author.Needs.{needs}
 use native.Mathlib.Omega.{arith}
-use mathlib.Core.Path.{refl}
 use Rattle.slots.specs.Phases.{leaves-as}
+use Rattle.sends.specs.Outcomes.{leaves-refused}
 use Rattle.sends.specs.Sent.{object-none, object-there}
 use Rattle.sends.proofs.send_object.Statement.{statement}
 use Rattle.sends.proofs.send_object.Tie as tie
 
 returns : tie.Need-returns
-returns c = λ values. leaves-as (object-none _ _ values _ _ _ _ _ (c .before .object-count .ensures) (c .if1 .taken)) (record { says = refl; words-are = refl; values-are = refl })
+returns c = λ values. leaves-as (object-none _ _ values _ _ _ _ _ (c .before .object-count .ensures) (c .if1 .taken)) (leaves-refused _ values 36 (omega arith) (omega arith))
 
 send-to-object-requires : tie.Need-send-to-object-requires
 send-to-object-requires c κs =

@@ -1,14 +1,17 @@
 -- `send_to` meets its contract: the class and the method are there, then the send is granted or held up.
 use borrow.Author.Needs.{needs}
 use native.Mathlib.Omega.{arith}
-use mathlib.Core.Path.{refl, ap}
+use mathlib.Core.Path.{ap}
 use Rattle.slots.specs.Phases.{leaves-as}
-use Rattle.sends.specs.Sent.{sent-refused, sent-there, few}
+use Rattle.sends.specs.Outcomes.{leaves-refused}
+use Rattle.sends.specs.Sent.{refusal-lt, sent-refused, sent-there, few}
 use Rattle.sends.proofs.send_to.Statement.{statement}
 use Rattle.sends.proofs.send_to.Tie as tie
 
 returns : tie.Need-returns
-returns c = λ values. leaves-as (sent-refused _ _ values _ _ _ _ _ _ _ (c .before .method-refusal .ensures) (c .if1 .taken)) (record { says = refl; words-are = refl; values-are = refl })
+returns c =
+    λ values. leaves-as (sent-refused _ _ values _ _ _ _ _ _ _ (c .before .method-refusal .ensures) (c .if1 .taken))
+    (leaves-refused _ values _ (c .if1 .taken) (refusal-lt _ _ _ _ (c .before .method-refusal .ensures)))
 
 grant-requires : tie.Need-grant-requires
 grant-requires c κs =
@@ -17,7 +20,7 @@ grant-requires c κs =
     let m = i .before in
     let s = m .before .before .before .before .before in
     let k = few _ _ _ _ (m .method-refusal .ensures) (i .if1 .left) in
-    (s .pre .0, omega (arith, k, ap (λ q. q .place) (w .wanted-of .ensures)), omega (arith, s .pre .1, ap (λ q. q .kind) (w .wanted-of .ensures)))
+    (s .pre, omega (arith, k, ap (λ q. q .place) (w .wanted-of .ensures)))
 
 returns-2 : tie.Need-returns-2
 returns-2 c =

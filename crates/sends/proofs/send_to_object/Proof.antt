@@ -1,13 +1,15 @@
 -- `send_to_object` meets its contract: as `send_to` does.
 use borrow.Author.Needs.{needs}
-use mathlib.Core.Path.{refl}
 use Rattle.slots.specs.Phases.{leaves-as}
-use Rattle.sends.specs.Sent.{sent-refused, sent-there, few, to-object}
+use Rattle.sends.specs.Outcomes.{leaves-refused}
+use Rattle.sends.specs.Sent.{refusal-lt, sent-refused, sent-there, few, to-object}
 use Rattle.sends.proofs.send_to_object.Statement.{statement}
 use Rattle.sends.proofs.send_to_object.Tie as tie
 
 returns : tie.Need-returns
-returns c = λ values. leaves-as (sent-refused _ _ values _ _ _ _ _ _ _ (c .before .method-refusal .ensures) (c .if1 .taken)) (record { says = refl; words-are = refl; values-are = refl })
+returns c =
+    λ values. leaves-as (sent-refused _ _ values _ _ _ _ _ _ _ (c .before .method-refusal .ensures) (c .if1 .taken))
+    (leaves-refused _ values _ (c .if1 .taken) (refusal-lt _ _ _ _ (c .before .method-refusal .ensures)))
 
 grant-object-requires : tie.Need-grant-object-requires
 grant-object-requires c κs =

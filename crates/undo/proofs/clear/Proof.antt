@@ -1,4 +1,4 @@
--- `clear` meets its contract: the words before the marks, or the notes by their marks and then the marks too.
+-- `clear` meets its contract: where no value was set the row is released; else the notes by their marks, and then all before them.
 use borrow.Author.Needs.{needs}
 use Prim.Native.Nat.{ℕ}
 use mathlib.Core.Path.{sym, ap, _∙_}
@@ -14,7 +14,7 @@ unfolding freed
 returns c =
     let h = c .before .before in
     let i = h .before .before in
-    rw (eq-eqb _ 0 (sym (i .before .get .ensures) ∙ i .if1 .taken)) (h .clear-first .ensures)
+    rw (eq-eqb _ 0 (sym (i .before .get .ensures) ∙ i .if1 .taken)) (h .release .ensures)
 
 returns-2 : tie.Need-returns-2
 unfolding freed
@@ -23,7 +23,7 @@ returns-2 c =
     let m = h .before .before .before .before in
     let i = m .before .before in
     rw (ne-eqb _ 0 (λ e. i .if1 .left (i .before .get .ensures ∙ e)))
-    (h .clear-first2 .ensures ∙ ap (λ (l : List ℕ). replicate 216 0 ++ drop 216 l) (m .clear-marked .ensures))
+    (h .clear-first .ensures ∙ ap (λ (l : List ℕ). replicate 216 0 ++ drop 216 l) (m .clear-marked .ensures))
 
 pub clear-spec : {M : Type 1} → statement M
 clear-spec =

@@ -1,33 +1,58 @@
--- `grant_object` meets its contract: 40 with the lowest bit of the mask, or the locks and the message.
+-- `grant_object` meets its contract: the send starts at once, or goes the way of every send.
 use borrow.Author.Needs.{needs}
-use mathlib.Core.Path.{refl}
+use Prim.Native.Nat.{ℕ}
+use mathlib.Core.Path.{refl, sym, _∙_}
+use mathlib.Core.List.{List}
+use Rattle.model.specs.Base.{least}
+use Rattle.state.specs.Calls.{inTheWay, grantedOr}
+use Rattle.locks.specs.Asked.{asked}
 use Rattle.slots.specs.Phases.{leaves-as}
-use Rattle.sends.specs.Sent.{held-up, free-way}
+use Rattle.sends.specs.Outcomes.{says-done, whole-lent}
+use Rattle.sends.specs.Sent.{at-once-free, free-way}
 use Rattle.sends.proofs.grant.grant_object.Statement.{statement}
 use Rattle.sends.proofs.grant.grant_object.Tie as tie
 
+take-object-requires : tie.Need-take-object-requires
+take-object-requires c κs =
+    let i = c .before in
+    let o = i .before in
+    let s = o .before .before .before .before in
+    (s .pre .0, s .pre .1, sym (o .starts-at-once .ensures) ∙ i .if1 .taken)
+
 returns : tie.Need-returns
 returns c =
-    let m = c .before in
-    λ values. leaves-as (held-up _ _ _ (m .before .before .before .before .pre .0) _ values _ (m .object-clashing .ensures) (c .if1 .taken)) (record { says = refl; words-are = refl; values-are = refl })
+    let t = c .before .before in
+    let i = t .before .before in
+    let o = i .before in
+    let s = o .before .before .before .before in
+    let a = s .args in
+    let once = sym (o .starts-at-once .ensures) ∙ i .if1 .taken in
+    λ values. leaves-as (free-way (a .text .now) (a .state .now) (a .slot) (s .pre .0) (asked (a .wanted)) values 0
+    (at-once-free (a .state .now) (asked (a .wanted)) once (a .text .now) (a .slot) (s .pre .1 .kind-is)) refl)
+    (record { says = says-done; words-are = t .take-object .ensures (a .text .now); values-are = refl })
 
 returns-2 : tie.Need-returns-2
 returns-2 c =
-    let t = c .before .before in
-    let i = t .before .before .before .before in
-    let m = i .before in
-    let w = m .before .before .before .before .pre .0 in
-    λ values. leaves-as (free-way _ _ _ w _ values _ (m .object-clashing .ensures) (i .if1 .left))
-    (record { says = refl; words-are = t .take-object .ensures; values-are = refl })
+    let g = c .before .before in
+    let s = g .before .before .before .before .before .before .before .before in
+    let a = s .args in
+    λ values. whole-lent (λ (text ws : List ℕ). grantedOr text ws values (a .slot) (asked (a .wanted)) (least (inTheWay text ws (a .slot) (asked (a .wanted))) 8))
+    (a .text .now) (a .state .now) (g .grant .last .1 .0) values _ (g .grant .ensures values)
 
 pub grant-object-spec : {M : Type 1} → statement M
 grant-object-spec =
     tie.close
     (tie.spec
     (λ c κs. search needs)
+    take-object-requires
     (λ c. search needs)
     returns
-    (λ c κs. search needs)
+    (λ c. search needs)
+    (λ c. search needs)
+    (λ c. search needs)
+    (λ c. search needs)
+    (λ c. search needs)
+    (λ c. search needs)
     (λ c κs. search needs)
     (λ c. search needs)
     returns-2)

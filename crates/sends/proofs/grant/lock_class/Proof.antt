@@ -1,14 +1,20 @@
--- `lock_class` meets its contract: the class's bit is added to the row lent.
+-- `lock_class` meets its contract: the class's bit, where it has one, is added to the row lent.
 use borrow.Author.Needs.{needs}
-use Rattle.sends.specs.Sent.{lock-one}
+use Rattle.sends.specs.Sent.{lock-one, lock-free}
 use Rattle.sends.proofs.grant.lock_class.Statement.{statement}
 use Rattle.sends.proofs.grant.lock_class.Tie as tie
 
 returns : tie.Need-returns
 returns c =
+    let f = c .before in
+    lock-free _ _ _ (f .before .before .before .before .before .pre) _ _ _ (f .domain-bit .ensures) (c .if1 .taken)
+
+returns-2 : tie.Need-returns-2
+returns-2 c =
     let l = c .before .before in
-    let f = l .before .before in
-    lock-one _ _ _ (f .before .before .before .before .before .pre) _ _ _ (f .domain-bit .ensures) (l .add-lock .last .0) (search needs) (l .add-lock .ensures)
+    let i = l .before .before in
+    let f = i .before in
+    lock-one _ _ _ (f .before .before .before .before .before .pre) _ _ _ (f .domain-bit .ensures) (i .if1 .left) (l .add-lock .last .0) (search needs) (l .add-lock .ensures)
 
 pub lock-class-spec : {M : Type 1} → statement M
 lock-class-spec =
@@ -19,6 +25,8 @@ lock-class-spec =
     (λ c. search needs)
     (λ c κs. search needs)
     (λ c. search needs)
+    returns
+    (λ c. search needs)
     (λ c. search needs)
     (λ c. search needs)
     (λ c. search needs)
@@ -28,4 +36,4 @@ lock-class-spec =
     (λ c. search needs)
     (λ c κs. search needs)
     (λ c. search needs)
-    returns)
+    returns-2)

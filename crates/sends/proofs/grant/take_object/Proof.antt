@@ -1,15 +1,21 @@
 -- `take_object` meets its contract: the locks and then the message enter the row lent.
 use borrow.Author.Needs.{needs}
-use Rattle.sends.specs.Sent.{taken-lent}
+use mathlib.Core.Path.{refl, sym}
+use Rattle.sends.specs.Sent.{first-there, at-once-writes, taken-lent}
 use Rattle.sends.proofs.grant.take_object.Statement.{statement}
 use Rattle.sends.proofs.grant.take_object.Tie as tie
 
 returns : tie.Need-returns
 returns c =
     let e = c .before .before in
-    let l = e .before .before .before in
-    let s = l .before .before .before .before .before in
-    taken-lent _ _ _ (s .pre .0) _ (s .pre .1) _ (s .pre .2) _ _ (l .lock-target .ensures) (search needs) (e .enter .ensures)
+    let class = e .before .before .before in
+    let object = class .before .before .before .before .before in
+    let p = object .before .before .before in
+    let b = p .before .before in
+    let s = b .before .before .before .before in
+    let w = at-once-writes _ _ (s .pre .2) in
+    λ text. taken-lent text _ _ (s .pre .0) _ (s .pre .1) _ (first-there text _ _ (s .pre .1) _ (sym w) refl _ _ (b .body-of .ensures text)) _ (p .place-bit .ensures) _ _ _
+    (object .add-lock .ensures) (class .add-lock2 .ensures) (search needs) (e .enter .ensures)
 
 pub take-object-spec : {M : Type 1} → statement M
 take-object-spec =
@@ -18,8 +24,18 @@ take-object-spec =
     (λ c. search needs)
     (λ c. search needs)
     (λ c. search needs)
+    (λ c κs. search needs)
     (λ c. search needs)
     (λ c. search needs)
+    (λ c. search needs)
+    (λ c. search needs)
+    (λ c. search needs)
+    (λ c. search needs)
+    (λ c. search needs)
+    (λ c κs. search needs)
+    (λ c. search needs)
+    (λ c. search needs)
+    (λ c κs. search needs)
     (λ c. search needs)
     (λ c. search needs)
     (λ c κs. search needs)
