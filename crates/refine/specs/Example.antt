@@ -12,7 +12,7 @@ use Rattle.model.specs.Base.{bytes, any, same}
 use Rattle.model.specs.Expression.{field, argument, apply, plus}
 use Rattle.model.specs.Text.{words, pieces}
 use Rattle.model.specs.Form.{assign, statementLine, formOf}
-use Rattle.model.specs.Library.{Library, noMember, classAt, memberPlace, byFirstParent, methodNames}
+use Rattle.model.specs.Library.{Library, noMember, classAt, member, memberPlace, byFirstParent, methodNames}
 use Rattle.model.specs.Read.{library}
 use Rattle.model.specs.Vector.{Program, program, commute}
 use Rattle.model.specs.Image.{mask, commuteMask}
@@ -67,7 +67,7 @@ unfolding library
 text-library = refl
 
 fits : Fits text tables p
-unfolding program library memberCount classWord objectWord bit mask commute memberPlace byFirstParent baseOf partOf statementWord formOf pieces any same
+unfolding program library memberCount classWord objectWord bit mask commute member memberPlace byFirstParent baseOf partOf statementWord formOf pieces any same
 fits =
     record {
       library = words-library ∙ ap withAncestors (fun-ext bit-zero) ∙ sym text-library;
@@ -83,6 +83,9 @@ fits =
       distinct = only (Distinct p) (only (λ j. memberPlace (classAt (p .library) 0 .methods) (getD (methodNames (p .library) 0) j []) ≡ j) refl);
       bodies = λ c j h. only (λ k. (i : ℕ) → i < memberCount tables k 1 → let b = getD (classAt (p .library) k .methods) i noMember in b .first + b .count ≤ 1)
           (only (λ i. let b = getD (classAt (p .library) 0 .methods) i noMember in b .first + b .count ≤ 1) (omega arith)) c h j;
+      copies = λ c j h. only (λ k. (i : ℕ) → i < memberCount tables k 1
+          → let b = getD (classAt (p .library) k .methods) i noMember in member (classAt (p .library) (b .origin) .methods) (b .name) ≡ b)
+          (only (λ i. let b = getD (classAt (p .library) 0 .methods) i noMember in member (classAt (p .library) (b .origin) .methods) (b .name) ≡ b) refl) c h j;
       lines = only (λ s. formOf (words (partOf text (statementWord tables s))) ≡ statementLine (statementAt (p .library) s)) refl;
     }
   where

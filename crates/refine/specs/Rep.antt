@@ -11,7 +11,7 @@ use Rattle.model.specs.Text.{words}
 use Rattle.model.specs.Word.{Name}
 use Rattle.model.specs.Expression as Expression
 use Rattle.model.specs.Form.{Statement, reply, statementLine, formOf}
-use Rattle.model.specs.Library.{Library, noMember, classAt, memberPlace, byFirstParent, methodNames}
+use Rattle.model.specs.Library.{Library, noMember, classAt, member, memberPlace, byFirstParent, methodNames}
 use Rattle.model.specs.Vector.{Program}
 use Rattle.model.specs.Image.{commuteMask}
 use Rattle.model.specs.Message.{Target, object, class, domain, Message, Activation, Run, baseOf}
@@ -150,6 +150,8 @@ pub record Fits (text tables : List ℕ) (p : Program) : Type 0 where
   pub distinct : (c : ℕ) → c < classCount tables → Distinct p c
   pub bodies : (c j : ℕ) → c < classCount tables → j < memberCount tables c 1
       → let b = getD (classAt (p .library) c .methods) j noMember in b .first + b .count ≤ statementCount tables
+  pub copies : (c j : ℕ) → c < classCount tables → j < memberCount tables c 1
+      → let b = getD (classAt (p .library) c .methods) j noMember in member (classAt (p .library) (b .origin) .methods) (b .name) ≡ b
   pub lines : (s : ℕ) → s < statementCount tables → formOf (words (partOf text (statementWord tables s))) ≡ statementLine (statementAt (p .library) s)
 
 -- ---- slots and worlds

@@ -22,7 +22,7 @@ use Rattle.words.specs.Upto.{getD-upto}
 use Rattle.words.specs.Look.{class-count, statement-count, object-count, member-count, class-at}
 use Rattle.theory.specs.ListLaws.{both-left, both-right, map-at}
 use Rattle.theory.specs.Lookup.{past-classes}
-use Rattle.state.specs.Turn.{inTarget, bodyIn, writesAt, bodyAt, valuesAt, fieldIn}
+use Rattle.state.specs.Turn.{inTarget, bodyIn, namedAt, bodyAt, valuesAt, fieldIn}
 use Rattle.refine.specs.Rep.{Fits, between, targetBy}
 
 -- The word of a name without the class that it is from.
@@ -143,7 +143,8 @@ module _ (text tables : List ℕ) (p : Program) (fits : Fits text tables p) wher
       go (yes h) (no k) = none-there (List·getD-eq-default ms noMember (omega arith))
       go (no h) k = none-there (ap (λ x. getD (x .methods) j noMember) (past-classes (p .library) d (omega (arith, class-total))))
 
-  -- Class c writes the method at its place k itself: it is the one of that name, since a class's names are all different.
+  -- Class c has the name at its place k: the method there is the one of that name, since a class's names are all different, and it
+  -- is a copy of the one in the class that writes it.
   module _ (c : ℕ) (h : c < classCount tables) (k w : ℕ) where
     abbrev x : ℕ
     x = classWord tables c (72 + k)
@@ -154,46 +155,52 @@ module _ (text tables : List ℕ) (p : Program) (fits : Fits text tables p) wher
     abbrev ms : List Member
     ms = classAt (p .library) c .methods
 
-    module _ (t : writesAt tables c k w ≡ true) where
-      there : k < memberCount tables c 1
-      unfolding writesAt
-      there = ltb-true k (memberCount tables c 1) (both-left (ltb k (memberCount tables c 1)) (eqb (x / 1048576) c && eqb (x % 1048576) w) t)
+    -- The method there.
+    abbrev b : Member
+    b = memberAt text tables c 1 k
 
-      both : eqb (x / 1048576) c && eqb (x % 1048576) w ≡ true
-      unfolding writesAt
-      both = both-right (ltb k (memberCount tables c 1)) (eqb (x / 1048576) c && eqb (x % 1048576) w) t
+    module _ (t : namedAt tables c k w ≡ true) where
+      there : k < memberCount tables c 1
+      unfolding namedAt
+      there = ltb-true k (memberCount tables c 1) (both-left (ltb k (memberCount tables c 1)) (eqb (x % 1048576) w) t)
+
+      name-at : getD (methodNames (p .library) c) k [] ≡ m
+      unfolding namedAt
+      name-at =
+          method-name c h k there
+          ∙ ap (nameOf text) (eqb-true (x % 1048576) w (both-right (ltb k (memberCount tables c 1)) (eqb (x % 1048576) w) t))
 
       found-at : memberPlace ms m ≡ k
-      found-at =
-          let name-is : x % 1048576 ≡ w = eqb-true (x % 1048576) w (both-right (eqb (x / 1048576) c) (eqb (x % 1048576) w) both) in
-          ap (memberPlace ms) (sym (method-name c h k there ∙ ap (nameOf text) name-is))
-          ∙ fits .distinct c h k (omega (arith, method-total c h, there))
+      found-at = ap (memberPlace ms) (sym name-at) ∙ fits .distinct c h k (omega (arith, method-total c h, there))
 
-      member-is : (d : Member) → getD ms (memberPlace ms m) d ≡ memberAt text tables c 1 k
+      method-at : (d : Member) → getD ms k d ≡ b
       unfolding membersOf
-      member-is d =
-          ap (λ (i : ℕ). getD ms i d) found-at ∙ ap (λ (l : List Member). getD l k d) (methods-are c h)
-          ∙ getD-upto (memberAt text tables c 1) (memberCount tables c 1) k d there
+      method-at d = ap (λ (l : List Member). getD l k d) (methods-are c h) ∙ getD-upto (memberAt text tables c 1) (memberCount tables c 1) k d there
 
-      writer-is : byFirstParent (p .library) c m ≡ c
-      unfolding byFirstParent memberAt
+      writer-is : byFirstParent (p .library) c m ≡ b .origin
+      unfolding byFirstParent
       writer-is =
           let d : Member = record { origin = length (p .library .classes); name = []; first = 0; count = 0 } in
-          let at : 8 + (64 + k) ≡ 72 + k = omega arith in
-          List·getD-map (λ (b : Member). b .origin) ms (memberPlace ms m) d ∙ ap (λ (b : Member). b .origin) (member-is d)
-          ∙ ap (λ (i : ℕ). classWord tables c i / 1048576) at
-          ∙ eqb-true (x / 1048576) c (both-left (eqb (x / 1048576) c) (eqb (x % 1048576) w) both)
+          List·getD-map (λ (z : Member). z .origin) ms (memberPlace ms m) d
+          ∙ ap (λ (z : Member). z .origin) (ap (λ (i : ℕ). getD ms i d) found-at ∙ method-at d)
 
-      body-there : bodyIn text tables c m ≡ memberAt text tables c 1 k
-      unfolding member
-      body-there = body-member c m ∙ ap (λ (d : ℕ). member (classAt (p .library) d .methods) m) writer-is ∙ member-is noMember
+      name-is : b .name ≡ m
+      name-is = ap (λ (z : Member). z .name) (sym (method-at noMember)) ∙ sym (List·getD-map (λ (z : Member). z .name) ms k noMember) ∙ name-at
+
+      copied : member (classAt (p .library) (b .origin) .methods) (b .name) ≡ b
+      copied =
+          subst (λ (z : Member). member (classAt (p .library) (z .origin) .methods) (z .name) ≡ z) (method-at noMember) (fits .copies c k h there)
+
+      body-there : bodyIn text tables c m ≡ b
+      body-there =
+          body-member c m ∙ ap₂ (λ (d : ℕ) (n : Name). member (classAt (p .library) d .methods) n) writer-is (sym name-is) ∙ copied
 
     -- A method's body by its place is the one by its name.
     pub body-at : bodyAt text tables c k w ≡ bodyIn text tables c m
     unfolding bodyAt
-    body-at = go (writesAt tables c k w) refl
+    body-at = go (namedAt tables c k w) refl
       where
-        go : (t : Bool) → writesAt tables c k w ≡ t → cond t (memberAt text tables c 1 k) (bodyIn text tables c m) ≡ bodyIn text tables c m
+        go : (t : Bool) → namedAt tables c k w ≡ t → cond t (memberAt text tables c 1 k) (bodyIn text tables c m) ≡ bodyIn text tables c m
         go true t = sym (body-there t)
         go false t = refl
 

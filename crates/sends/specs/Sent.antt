@@ -16,7 +16,7 @@ use Rattle.model.specs.Machine.{object, class, domain, to}
 use Rattle.words.specs.View.{classWord, objectWord, classCount, objectCount, memberCount, memberAt}
 use Rattle.theory.specs.ListLaws.{both-left, both-right}
 use Rattle.state.specs.Row.{lockMarked, withBits, objectRow, newAct, withAct}
-use Rattle.state.specs.Turn.{inTarget, objectFrom, writesAt}
+use Rattle.state.specs.Turn.{inTarget, objectFrom, namedAt}
 use Rattle.state.specs.Request.{Wanted, meets, rowMeets, domainLock, locked, begunRow, concerns, withLock, placeIn}
 use Rattle.state.specs.Calls.{After, tablesOf, rowOf, withRow, refused, wanted, inTheWay, grantedOr, sentTo, sentBy}
 use Rattle.refine.specs.Bits.{meets-or}
@@ -145,8 +145,8 @@ pub record ToObject (tables : List ℕ) (q : Wanted) : Type 0 where
 pub to-object : (tables : List ℕ) (o c k a : ℕ) → ObjectOf tables o c → k < 32 → (w : Wanted) → w ≡ wanted tables 0 o c k a → ToObject tables w
 to-object tables o c k a t h w e = subst (ToObject tables) (sym e) (record { kind-is = refl; object-is = t; few = h })
 
--- Its message starts there, with the body that its class writes.
-pub first-there : (text tables : List ℕ) (q : Wanted) → ToObject tables q → (t : Bool) → t ≡ writesAt tables (q .class) (q .place) (q .name) → t ≡ true
+-- Its message starts there, with the body at the method's place.
+pub first-there : (text tables : List ℕ) (q : Wanted) → ToObject tables q → (t : Bool) → t ≡ namedAt tables (q .class) (q .place) (q .name) → t ≡ true
     → (first end : ℕ) → Bounds (memberAt text tables (q .class) 1 (q .place)) first end → on (q .number) first end ≡ firstOf text tables q
 unfolding objectFrom inTarget
 first-there text tables q o t w z first end b =
@@ -263,12 +263,12 @@ module _ (text ws : List ℕ) (s : ℕ) (q : Wanted) (methods : ℕ) (m : method
 
 -- ---- a send to an object that starts at once
 
--- No slot holds a conflict on the object, and its class writes the method at its place.
+-- No slot holds a conflict on the object, and its class has the method's name at its place.
 unfoldable pub startsAtOnce : List ℕ → Wanted → Bool
-unfolding heldUpto conflictsOf writesAt
+unfolding heldUpto conflictsOf namedAt
 startsAtOnce ws q =
     eqb (bitAnd (heldUpto ws (56 + q .number) (q .class) 8) (conflictsOf (tablesOf ws) (q .class) (q .place))) 0
-    && writesAt (tablesOf ws) (q .class) (q .place) (q .name)
+    && namedAt (tablesOf ws) (q .class) (q .place) (q .name)
 
 module _ (ws : List ℕ) (q : Wanted) where
   module _ (held methods : ℕ) (e : held ≡ heldUpto ws (56 + q .number) (q .class) 8) (m : methods ≡ conflictsOf (tablesOf ws) (q .class) (q .place)) where
@@ -276,15 +276,15 @@ module _ (ws : List ℕ) (q : Wanted) where
     unfolding startsAtOnce
     held-there z = rw (← e, ← m, ne-eqb (bitAnd held methods) 0 z)
 
-    pub free-there : bitAnd held methods ≡ 0 → (t : Bool) → t ≡ writesAt (tablesOf ws) (q .class) (q .place) (q .name) → t ≡ startsAtOnce ws q
+    pub free-there : bitAnd held methods ≡ 0 → (t : Bool) → t ≡ namedAt (tablesOf ws) (q .class) (q .place) (q .name) → t ≡ startsAtOnce ws q
     unfolding startsAtOnce
     free-there z t w = rw (← e, ← m, z) w
 
   module _ (once : startsAtOnce ws q ≡ true) where
-    pub at-once-writes : writesAt (tablesOf ws) (q .class) (q .place) (q .name) ≡ true
+    pub at-once-named : namedAt (tablesOf ws) (q .class) (q .place) (q .name) ≡ true
     unfolding startsAtOnce
-    at-once-writes = both-right (eqb (bitAnd (heldUpto ws (56 + q .number) (q .class) 8) (conflictsOf (tablesOf ws) (q .class) (q .place))) 0)
-        (writesAt (tablesOf ws) (q .class) (q .place) (q .name)) once
+    at-once-named = both-right (eqb (bitAnd (heldUpto ws (56 + q .number) (q .class) 8) (conflictsOf (tablesOf ws) (q .class) (q .place))) 0)
+        (namedAt (tablesOf ws) (q .class) (q .place) (q .name)) once
 
     -- No slot is in its way.
     pub at-once-free : (text : List ℕ) (s : ℕ) → q .kind ≡ 0 → 0 ≡ gathered (inTheWay text ws s q) 8
@@ -293,7 +293,7 @@ module _ (ws : List ℕ) (q : Wanted) where
         let methods : ℕ = conflictsOf (tablesOf ws) (q .class) (q .place) in
         let none : bitAnd (heldUpto ws (56 + q .number) (q .class) 8) methods ≡ 0 =
         eqb-true (bitAnd (heldUpto ws (56 + q .number) (q .class) 8) methods) 0
-        (both-left (eqb (bitAnd (heldUpto ws (56 + q .number) (q .class) 8) methods) 0) (writesAt (tablesOf ws) (q .class) (q .place) (q .name)) once) in
+        (both-left (eqb (bitAnd (heldUpto ws (56 + q .number) (q .class) 8) methods) 0) (namedAt (tablesOf ws) (q .class) (q .place) (q .name)) once) in
         sym (none-holds ws (56 + q .number) (q .class) methods (conflicts-lt (tablesOf ws) (q .class) (q .place)) s 8 none)
         ∙ object-in-the-way text ws s q methods refl k
 

@@ -98,7 +98,7 @@ fn starts_at_once(state: &[u32], wanted: Wanted) -> bool
     if held_by_all(state, word, wanted.class) & methods != 0 {
         return false;
     }
-    turns::body::writes_at(&state[0..8072], wanted.class, wanted.place, wanted.name)
+    turns::body::named_at(&state[0..8072], wanted.class, wanted.place, wanted.name)
 }
 
 // The locks of such a send, and its message at its start, in its slot's row.

@@ -12,7 +12,7 @@ use Rattle.model.specs.Base.{upto}
 use Rattle.model.specs.Text.{words, linesAndRest}
 use Rattle.model.specs.Expression as Expression
 use Rattle.model.specs.Form.{reply, statementLine, formOf}
-use Rattle.model.specs.Library.{Library, Member, Class, Placed, Object, noMember, noClass, classAt, byFirstParent, methodNames}
+use Rattle.model.specs.Library.{Library, Member, Class, Placed, Object, noMember, noClass, classAt, member, byFirstParent, methodNames}
 use Rattle.model.specs.Read.{accepted, refused, libraryIn, readPieces, read, library}
 use Rattle.model.specs.Vector.{program, programBy, transitive}
 use Rattle.model.specs.Image.{commuteMask}
@@ -21,6 +21,7 @@ use Rattle.model.specs.Message as Model
 use Rattle.twophase.specs.Base.{All}
 use Rattle.theory.specs.ListLaws.{upto-at, map-at}
 use Rattle.theory.specs.Accepted.{Within, unique-place, Good, all-getD, Sound, Known, Placing, library-sound, library-known, library-placing}
+use Rattle.theory.specs.Copies.{Copied, library-copied}
 use Rattle.words.specs.View.{partOf, classWord, objectWord, statementWord, classCount, objectCount, statementCount, memberCount, membersOf, bit, classOf, placedOf, objectOf, libraryOf}
 use Rattle.words.specs.Upto.{length-upto, getD-upto}
 use Rattle.words.specs.Look.{class-count, statement-count, object-count, member-count, class-at, shown-members, shownCount}
@@ -151,6 +152,13 @@ module _ (text ws : List ℕ) where
         let there = all-below (Within (length (l .statements))) (classAt l c .methods) noMember (good c .within) j (omega (arith, method-count c h)) in
         omega (arith, there, statement-count text ws)
 
+    copies : (c j : ℕ) → c < classCount ws → j < memberCount ws c 1
+        → let b = getD (classAt (program l .library) c .methods) j noMember in member (classAt (program l .library) (b .origin) .methods) (b .name) ≡ b
+    unfolding program programBy
+    copies c j h k =
+        subst (λ (z : Library). j < length (classAt z c .methods) → Copied z (getD (classAt z c .methods) j noMember)) library-is (library-copied text c j)
+        (omega (arith, method-count c h))
+
     lines : (s : ℕ) → s < statementCount ws → formOf (words (partOf text (statementWord ws s))) ≡ statementLine (statementAt (program l .library) s)
     unfolding program programBy placedOf partOf
     lines s h =
@@ -181,5 +189,6 @@ module _ (text ws : List ℕ) where
       known = known;
       distinct = λ c h. distinct c;
       bodies = bodies;
+      copies = copies;
       lines = lines;
     }

@@ -41,18 +41,16 @@ bodyIn text tables c m =
     let l = libraryOf text tables in
     member (classAt l (byFirstParent l c m) .methods) m
 
--- Class c writes the method at its place k itself, and its name's word is w.
-unfoldable pub writesAt : List ℕ → ℕ → ℕ → ℕ → Bool
+-- Class c has a method at place k, and its name's word is w.
+unfoldable pub namedAt : List ℕ → ℕ → ℕ → ℕ → Bool
 unfolding memberCount classWord
-writesAt tables c k w =
-    let x = classWord tables c (72 + k) in
-    ltb k (memberCount tables c 1) && (eqb (x / 1048576) c && eqb (x % 1048576) w)
+namedAt tables c k w = ltb k (memberCount tables c 1) && eqb (classWord tables c (72 + k) % 1048576) w
 
--- The same body by the method's place, where the class writes it there; else by its name. On the tables of a text both are one
--- (body-at in crates/refine/specs/Tables.antt); by its place it is found at once.
+-- The same body by the method's place, where the class has that name there; else by its name. On the tables of a text both are
+-- one, inherited methods included (body-at in crates/refine/specs/Tables.antt); by its place it is found at once.
 unfoldable pub bodyAt : List ℕ → List ℕ → ℕ → ℕ → ℕ → Member
-unfolding writesAt memberAt bodyIn nameOf
-bodyAt text tables c k w = cond (writesAt tables c k w) (memberAt text tables c 1 k) (bodyIn text tables c (nameOf text w))
+unfolding namedAt memberAt bodyIn nameOf
+bodyAt text tables c k w = cond (namedAt tables c k w) (memberAt text tables c 1 k) (bodyIn text tables c (nameOf text w))
 
 -- A message's turn to an object: its own class's method of the name sent.
 abbrev pub nextTurn : List ℕ → List ℕ → ℕ → ℕ → ℕ → Turn

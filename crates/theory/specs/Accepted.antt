@@ -232,7 +232,7 @@ object-known l n c vs e = go (any (λ o. same (o .name) n) (l .objects)) (isClas
     go false false d q = absurd (omega arith)
     go false true d q = refl
 
-alter-length : {A : Type 0} (n : ℕ) (f : A → A) (xs : List A) → length (alter n f xs) ≡ length xs
+pub alter-length : {A : Type 0} (n : ℕ) (f : A → A) (xs : List A) → length (alter n f xs) ≡ length xs
 unfolding alter
 alter-length n f [] = refl
 alter-length zero f (x ∷ xs) = refl

@@ -20,3 +20,4 @@ pub mod Alone
 pub mod ServiceLaws
 pub mod CommitOrder
 pub mod Accepted
+pub mod Copies

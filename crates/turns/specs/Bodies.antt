@@ -12,7 +12,7 @@ use Rattle.model.specs.Library.{Member, Class, noMember, classAt, member, membe
 use Rattle.words.specs.View.{nameOf, classWord, classCount, memberCount, memberAt, membersOf, classOf, libraryOf}
 use Rattle.words.specs.Upto.{getD-upto}
 use Rattle.words.specs.Look.{shownCount, class-count, class-at, class-past, member-count}
-use Rattle.state.specs.Turn.{bodyIn, writesAt, bodyAt}
+use Rattle.state.specs.Turn.{bodyIn, namedAt, bodyAt}
 
 -- The statements of a body: its first, and the one past its last.
 pub record Bounds (m : Member) (first end : ℕ) : Type 0 where
@@ -114,18 +114,18 @@ word-bounds text tables k j w q = rw q (record { first-is = refl; end-is = refl 
 
 -- The test of the method at place k of class c, which has n.
 module _ (tables : List ℕ) (c k w n : ℕ) (m : n ≡ memberCount tables c 1) where
-  pub writes-none : n ≤ k → false ≡ writesAt tables c k w
-  unfolding writesAt
-  writes-none h = rw (← m, le-ltb k n h)
+  pub named-none : n ≤ k → false ≡ namedAt tables c k w
+  unfolding namedAt
+  named-none h = rw (← m, le-ltb k n h)
 
-  pub writes-there : k < n → (x : ℕ) → x ≡ classWord tables c (8 + (1 * 64 + k)) → (eqb (x / 1048576) c && eqb (x % 1048576) w) ≡ writesAt tables c k w
-  unfolding writesAt
-  writes-there h x q =
+  pub named-there : k < n → (x : ℕ) → x ≡ classWord tables c (8 + (1 * 64 + k)) → eqb (x % 1048576) w ≡ namedAt tables c k w
+  unfolding namedAt
+  named-there h x q =
       let at : 8 + (1 * 64 + k) ≡ 72 + k = omega arith in
       rw (← m, lt-ltb k n h, ← at, ← q)
 
 -- The method by its place, or by its name.
-module _ (text tables : List ℕ) (c k w first end : ℕ) (t : Bool) (e : t ≡ writesAt tables c k w) where
+module _ (text tables : List ℕ) (c k w first end : ℕ) (t : Bool) (e : t ≡ namedAt tables c k w) where
   pub by-place : t ≡ true → Bounds (memberAt text tables c 1 k) first end → Bounds (bodyAt text tables c k w) first end
   unfolding bodyAt
   by-place h b = rw (← e, h) b

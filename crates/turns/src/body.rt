@@ -4,7 +4,7 @@ ghost use mathlib.Core.Path.{_≡_};
 ghost use mathlib.Core.List.{List};
 ghost use Rattle.model.specs.Library.{memberPlace};
 ghost use Rattle.words.specs.View.{memberAt, membersOf};
-ghost use Rattle.state.specs.Turn.{bodyIn, writesAt, bodyAt};
+ghost use Rattle.state.specs.Turn.{bodyIn, namedAt, bodyAt};
 ghost use Rattle.turns.specs.Bodies.{Bounds, originAt};
 
 const METHODS: u32 = 1;
@@ -62,22 +62,21 @@ pub fn body_in(text: &[u8], tables: &[u32], class: u32, name: &[u8]) -> Body
     }
 }
 
-// The class writes the method at that place itself, and its name's word is this.
-pub fn writes_at(tables: &[u32], class: u32, place: u32, name: u32) -> bool
-    ensures { λ r. ⌜ r ≡ writesAt (now (tables .entry)) class place name ⌝ }
+// The class has a method at that place, and its name's word is this.
+pub fn named_at(tables: &[u32], class: u32, place: u32, name: u32) -> bool
+    ensures { λ r. ⌜ r ≡ namedAt (now (tables .entry)) class place name ⌝ }
 {
     if words::member_count(tables, class, METHODS) <= place {
         return false;
     }
-    let word = words::member_word(tables, class, METHODS, place);
-    (word / 1048576 == class) & (word % 1048576 == name)
+    words::member_word(tables, class, METHODS, place) % 1048576 == name
 }
 
-// The body of a class's method by its name's word: at a place, if the class writes it there; else by its name.
+// The body of a class's method by its name's word: at a place, if the class has that name there; else by its name.
 pub fn body_at(text: &[u8], tables: &[u32], class: u32, place: u32, name: u32) -> Body
     ensures { λ r. ⌜ Bounds (bodyAt (now (text .entry)) (now (tables .entry)) class place name) (r .first) (r .end) ⌝ }
 {
-    if writes_at(tables, class, place, name) {
+    if named_at(tables, class, place, name) {
         body_of(tables, class, place)
     } else {
         body_in(text, tables, class, words::name_of(text, name))

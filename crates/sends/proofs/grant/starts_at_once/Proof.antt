@@ -1,4 +1,4 @@
--- `starts_at_once` meets its contract: no slot holds a conflict, and then the class writes the method.
+-- `starts_at_once` meets its contract: no slot holds a conflict, and then the class has the name at its place.
 use borrow.Author.Needs.{needs}
 use Rattle.locks.specs.Asked.{asked}
 use Rattle.sends.specs.Sent.{held-there, free-there}
@@ -18,7 +18,7 @@ returns-2 c =
     let h = i .before in
     let m = h .before in
     let a = m .before .before .before .before .args in
-    free-there (a .state .now) (asked (a .wanted)) _ _ (h .held-by-all .ensures) (m .conflicts .ensures) (i .if1 .left) _ (c .writes-at .ensures)
+    free-there (a .state .now) (asked (a .wanted)) _ _ (h .held-by-all .ensures) (m .conflicts .ensures) (i .if1 .left) _ (c .named-at .ensures)
 
 pub starts-at-once-spec : {M : Type 1} → statement M
 starts-at-once-spec =

@@ -1,7 +1,7 @@
 -- `take_object` meets its contract: the locks and then the message enter the row lent.
 use borrow.Author.Needs.{needs}
 use mathlib.Core.Path.{refl, sym}
-use Rattle.sends.specs.Sent.{first-there, at-once-writes, taken-lent}
+use Rattle.sends.specs.Sent.{first-there, at-once-named, taken-lent}
 use Rattle.sends.proofs.grant.take_object.Statement.{statement}
 use Rattle.sends.proofs.grant.take_object.Tie as tie
 
@@ -13,7 +13,7 @@ returns c =
     let p = object .before .before .before in
     let b = p .before .before in
     let s = b .before .before .before .before in
-    let w = at-once-writes _ _ (s .pre .2) in
+    let w = at-once-named _ _ (s .pre .2) in
     λ text. taken-lent text _ _ (s .pre .0) _ (s .pre .1) _ (first-there text _ _ (s .pre .1) _ (sym w) refl _ _ (b .body-of .ensures text)) _ (p .place-bit .ensures) _ _ _
     (object .add-lock .ensures) (class .add-lock2 .ensures) (search needs) (e .enter .ensures)
 

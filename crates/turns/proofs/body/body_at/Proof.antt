@@ -5,12 +5,12 @@ use Rattle.turns.proofs.body.body_at.Statement.{statement}
 use Rattle.turns.proofs.body.body_at.Tie as tie
 
 returns : tie.Need-returns
-returns c = by-place _ _ _ _ _ _ _ _ (c .before .before .writes-at .ensures) (c .before .if1 .taken) (c .body-of .ensures _)
+returns c = by-place _ _ _ _ _ _ _ _ (c .before .before .named-at .ensures) (c .before .if1 .taken) (c .body-of .ensures _)
 
 returns-2 : tie.Need-returns-2
 returns-2 c =
     let n = c .before in
-    by-name _ _ _ _ _ _ _ _ (n .before .before .writes-at .ensures) (n .before .if1 .left) _ (n .name-of .ensures) (c .body-in .ensures)
+    by-name _ _ _ _ _ _ _ _ (n .before .before .named-at .ensures) (n .before .if1 .left) _ (n .name-of .ensures) (c .body-in .ensures)
 
 pub body-at-spec : {M : Type 1} → statement M
 body-at-spec =
