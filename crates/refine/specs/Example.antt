@@ -18,6 +18,7 @@ use Rattle.model.specs.Vector.{Program, program, commute}
 use Rattle.model.specs.Image.{mask, commuteMask}
 use Rattle.model.specs.Message.{baseOf, inDomain}
 use Rattle.model.specs.Machine.{Call}
+use Rattle.theory.specs.Copies.{Copied}
 use Rattle.words.specs.View.{partOf, classWord, objectWord, statementWord, classCount, memberCount, bit, libraryOf}
 use Rattle.words.specs.Bits.{bit-zero}
 use Rattle.theory.specs.VectorLaws.{program-compiled}
@@ -83,9 +84,8 @@ fits =
       distinct = only (Distinct p) (only (λ j. memberPlace (classAt (p .library) 0 .methods) (getD (methodNames (p .library) 0) j []) ≡ j) refl);
       bodies = λ c j h. only (λ k. (i : ℕ) → i < memberCount tables k 1 → let b = getD (classAt (p .library) k .methods) i noMember in b .first + b .count ≤ 1)
           (only (λ i. let b = getD (classAt (p .library) 0 .methods) i noMember in b .first + b .count ≤ 1) (omega arith)) c h j;
-      copies = λ c j h. only (λ k. (i : ℕ) → i < memberCount tables k 1
-          → let b = getD (classAt (p .library) k .methods) i noMember in member (classAt (p .library) (b .origin) .methods) (b .name) ≡ b)
-          (only (λ i. let b = getD (classAt (p .library) 0 .methods) i noMember in member (classAt (p .library) (b .origin) .methods) (b .name) ≡ b) refl) c h j;
+      copies = λ c j h. only (λ k. (i : ℕ) → i < memberCount tables k 1 → Copied (p .library) (getD (classAt (p .library) k .methods) i noMember))
+          (only (λ i. Copied (p .library) (getD (classAt (p .library) 0 .methods) i noMember)) refl) c h j;
       lines = only (λ s. formOf (words (partOf text (statementWord tables s))) ≡ statementLine (statementAt (p .library) s)) refl;
     }
   where

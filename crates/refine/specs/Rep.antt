@@ -11,7 +11,7 @@ use Rattle.model.specs.Text.{words}
 use Rattle.model.specs.Word.{Name}
 use Rattle.model.specs.Expression as Expression
 use Rattle.model.specs.Form.{Statement, reply, statementLine, formOf}
-use Rattle.model.specs.Library.{Library, noMember, classAt, member, memberPlace, byFirstParent, methodNames}
+use Rattle.model.specs.Library.{Library, noMember, classAt, memberPlace, byFirstParent, methodNames}
 use Rattle.model.specs.Vector.{Program}
 use Rattle.model.specs.Image.{commuteMask}
 use Rattle.model.specs.Message.{Target, object, class, domain, Message, Activation, Run, baseOf}
@@ -20,6 +20,7 @@ use Rattle.model.specs.Lock.{Lock, onObject, onClass}
 use Rattle.model.specs.Service.{Answer, Slot, closed, opened, Transaction, World}
 use Rattle.model.specs.Service as Told
 use Rattle.model.specs.Machine.{service}
+use Rattle.theory.specs.Copies.{Copied}
 use Rattle.words.specs.View.{nameOf, partOf, classWord, objectWord, statementWord, classCount, objectCount, statementCount, memberCount, bit, libraryOf}
 use Rattle.state.specs.Row.{act, noteAt, blank}
 use Rattle.state.specs.Calls.{Answered, done, goes, halt, answer, number, held, tablesOf, rowOf, misfitOf}
@@ -150,8 +151,7 @@ pub record Fits (text tables : List ℕ) (p : Program) : Type 0 where
   pub distinct : (c : ℕ) → c < classCount tables → Distinct p c
   pub bodies : (c j : ℕ) → c < classCount tables → j < memberCount tables c 1
       → let b = getD (classAt (p .library) c .methods) j noMember in b .first + b .count ≤ statementCount tables
-  pub copies : (c j : ℕ) → c < classCount tables → j < memberCount tables c 1
-      → let b = getD (classAt (p .library) c .methods) j noMember in member (classAt (p .library) (b .origin) .methods) (b .name) ≡ b
+  pub copies : (c j : ℕ) → c < classCount tables → j < memberCount tables c 1 → Copied (p .library) (getD (classAt (p .library) c .methods) j noMember)
   pub lines : (s : ℕ) → s < statementCount tables → formOf (words (partOf text (statementWord tables s))) ≡ statementLine (statementAt (p .library) s)
 
 -- ---- slots and worlds

@@ -16,6 +16,7 @@ use Rattle.model.specs.Library.{Library, Member, Object, noMember, classAt, mem
 use Rattle.model.specs.Vector.{Program}
 use Rattle.model.specs.Message.{sizeOf, baseOf, placeOf, valueAt, look}
 use Rattle.model.specs.Message as Model
+use Rattle.theory.specs.Copies.{Copied}
 use Rattle.words.specs.View.{nameOf, classWord, objectWord, classCount, objectCount, statementCount, memberCount, memberAt, membersOf, bit, objectOf, libraryOf}
 use Rattle.words.specs.View as View
 use Rattle.words.specs.Upto.{getD-upto}
@@ -187,9 +188,8 @@ module _ (text tables : List ℕ) (p : Program) (fits : Fits text tables p) wher
       name-is : b .name ≡ m
       name-is = ap (λ (z : Member). z .name) (sym (method-at noMember)) ∙ sym (List·getD-map (λ (z : Member). z .name) ms k noMember) ∙ name-at
 
-      copied : member (classAt (p .library) (b .origin) .methods) (b .name) ≡ b
-      copied =
-          subst (λ (z : Member). member (classAt (p .library) (z .origin) .methods) (z .name) ≡ z) (method-at noMember) (fits .copies c k h there)
+      copied : Copied (p .library) b
+      copied = subst (Copied (p .library)) (method-at noMember) (fits .copies c k h there)
 
       body-there : bodyIn text tables c m ≡ b
       body-there =

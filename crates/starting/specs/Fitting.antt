@@ -12,7 +12,7 @@ use Rattle.model.specs.Base.{upto}
 use Rattle.model.specs.Text.{words, linesAndRest}
 use Rattle.model.specs.Expression as Expression
 use Rattle.model.specs.Form.{reply, statementLine, formOf}
-use Rattle.model.specs.Library.{Library, Member, Class, Placed, Object, noMember, noClass, classAt, member, byFirstParent, methodNames}
+use Rattle.model.specs.Library.{Library, Member, Class, Placed, Object, noMember, noClass, classAt, byFirstParent, methodNames}
 use Rattle.model.specs.Read.{accepted, refused, libraryIn, readPieces, read, library}
 use Rattle.model.specs.Vector.{program, programBy, transitive}
 use Rattle.model.specs.Image.{commuteMask}
@@ -152,8 +152,7 @@ module _ (text ws : List ℕ) where
         let there = all-below (Within (length (l .statements))) (classAt l c .methods) noMember (good c .within) j (omega (arith, method-count c h)) in
         omega (arith, there, statement-count text ws)
 
-    copies : (c j : ℕ) → c < classCount ws → j < memberCount ws c 1
-        → let b = getD (classAt (program l .library) c .methods) j noMember in member (classAt (program l .library) (b .origin) .methods) (b .name) ≡ b
+    copies : (c j : ℕ) → c < classCount ws → j < memberCount ws c 1 → Copied (program l .library) (getD (classAt (program l .library) c .methods) j noMember)
     unfolding program programBy
     copies c j h k =
         subst (λ (z : Library). j < length (classAt z c .methods) → Copied z (getD (classAt z c .methods) j noMember)) library-is (library-copied text c j)
