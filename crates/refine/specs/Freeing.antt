@@ -1,16 +1,16 @@
 -- A row freed: its length, and that it is blank where what it has not marked as written is 0.
-use Prim.Native.Nat.{ℕ, suc, _+_, _-_, _/_, _%_, _≤_, _<_}
+use Prim.Native.Nat.{ℕ, _+_, _-_, _/_, _%_, _≤_, _<_}
 use native.Mathlib.Omega.{arith}
 use native.Mathlib.Decide.{decLt}
 use mathlib.Core.Path.{_≡_, refl, sym, ap, _∙_}
 use mathlib.Core.Bool.{Bool, true, false, cond}
-use mathlib.Core.Option.{Option, none}
+use mathlib.Core.Option.{none}
 use mathlib.Core.List.{List, _++_}
-use lib.ListN.{length, getD, drop, set, replicate, length-append, length-drop, length-replicate, getD-replicate, List·getD-append}
+use lib.ListN.{length, getD, drop, replicate, length-append, length-drop, length-replicate, getD-replicate, List·getD-append}
 use lib.Seq.{getD-drop, getD-append-add, ext-getD}
 use lib.Dec.{eqb, ltb}
 use borrow.Author.Tests.{lt-ltb, le-ltb, eqb-true}
-use Rattle.model.specs.Undo.{Undo, restored, putBack}
+use Rattle.model.specs.Undo.{Undo, restored}
 use Rattle.words.specs.View.{bit}
 use Rattle.words.specs.Bits.{bit-zero}
 use Rattle.state.specs.Row.{noteIf, blank, unnoted, zeroed, unlocked, released, freed}

@@ -22,7 +22,7 @@ use Rattle.theory.specs.ListLaws.{eqb-same}
 use Rattle.state.specs.Row.{act, noteIf, noteAt, notedRow, skipRow, goingTo}
 use Rattle.refine.specs.Rep.{between, activationOf, stackOf, runOf, Running, Clean}
 use Rattle.refine.specs.Bits.{bit-one}
-use Rattle.refine.specs.Runs.{Alike, activation-same, stack-same, run-same, running-same}
+use Rattle.refine.specs.Runs.{activation-same, stack-same, run-same, running-same}
 use Rattle.refine.specs.Stores.{else-word, new-word}
 use Rattle.refine.specs.Going.{Goes, onwardRun, skip-goes}
 

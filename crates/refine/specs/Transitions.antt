@@ -1,11 +1,11 @@
 -- What each call does to an open slot, over the words and in the model: begin, step, commit and abort.
-use Prim.Native.Nat.{ℕ, suc, _+_, _/_, _%_, _<_}
+use Prim.Native.Nat.{ℕ, _+_, _/_, _%_, _<_}
 use native.Mathlib.Omega.{arith}
 use mathlib.Core.Path.{_≡_, refl, sym, ap, subst, _∙_, fun-ext}
 use mathlib.Core.Bool.{Bool, true, false, cond}
 use mathlib.Core.Option.{Option, none, some}
-use mathlib.Core.List.{List, [], _∷_}
-use lib.ListN.{length, getD, set, length-set, length-replicate}
+use mathlib.Core.List.{List, []}
+use lib.ListN.{length, getD, set, length-set}
 use lib.Dec.{ltb}
 use Rattle.model.specs.Vector.{Program}
 use Rattle.model.specs.Message.{Effect, idle, store, Run, Outcome, goes, ends, stops, turn}

@@ -1,6 +1,6 @@
 -- What the next step of a running message is, by the text, the tables, the slot's row and the values. Every number that is
 -- read from the words and used as a place is tested here; one that does not fit gives 24.
-use Prim.Native.Nat.{ℕ, zero, suc, _+_, _-_, _/_, _%_}
+use Prim.Native.Nat.{ℕ, zero, suc, _+_, _-_, _%_}
 use mathlib.Core.Bool.{Bool, true, not, cond, _&&_, _||_}
 use mathlib.Core.Option.{Option, none, some}
 use mathlib.Core.List.{List}

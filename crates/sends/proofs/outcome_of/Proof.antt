@@ -1,6 +1,5 @@
 -- `outcome_of` meets its contract: its tests are the definition's.
 use Rattle.sends.specs.Outcomes.{granted-is, refused-is, held-is}
-use borrow.Author.Needs.{needs}
 use Rattle.sends.proofs.outcome_of.Statement.{statement}
 use Rattle.sends.proofs.outcome_of.Tie as tie
 
