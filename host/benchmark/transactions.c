@@ -1,7 +1,7 @@
 /* The lock machine's calls, made as berkeley.c makes Berkeley DB's: a send to an object takes two locks, and commit frees them.
  * The method is an inherited one, as plot of class lane is in samples/lanes.txt. Prints nanoseconds, the least of many rounds:
- * for send and commit each by itself, less the clock's own time (berkeley.c looks at it once in 30,000), and for a whole
- * transaction (begin, send, the step that ends the message, commit).
+ * for send and commit each by itself, as what twice as many calls take longer, so that the clock's own time is not counted
+ * (berkeley.c looks at it once in 30,000), and for a whole transaction (begin, send, the step that ends the message, commit).
  *   transactions          the calls alone
  *   transactions threads  each call between the lock and the unlock of a mutex, as several threads would make it */
 #include "cishmolaq.h"
@@ -12,8 +12,8 @@
 #include <time.h>
 #include <unistd.h>
 
-/* Several machines, so that a look at the clock is for many calls; all that they touch fits the processor's first cache. */
-enum { MACHINES = 6, SLOTS = 8, CALLS = MACHINES * SLOTS, ROUNDS = 40, TIMES = 1000 };
+/* Several machines, and half as many; all that they touch fits the processor's first cache. */
+enum { MACHINES = 6, HALF = MACHINES / 2, SLOTS = 8, CALLS = MACHINES * SLOTS, ROUNDS = 40, TIMES = 1000 };
 
 static const char text[] = "class run\nmethod shot\nend\nmethod plot\nend\nclass lane : run\nobject lane1 lane\n";
 static const size_t length = sizeof text - 1;
@@ -61,40 +61,37 @@ static double now(void) {
 
 static double least(double a, double b) { return a < b ? a : b; }
 
-/* What two looks at the clock take by themselves. */
-static double clock_time(void) {
-    double time = 1e18;
-    for (int k = 0; k < TIMES; k++) {
-        double from = now();
-        time = least(time, now() - from);
-    }
-    return time;
-}
-
-/* The time of a call on every slot of every machine. */
-#define ALL(call, time)                                                                                                  \
+/* The time of a call on every slot of so many machines. */
+#define ALL(call, machines, time)                                                                                        \
     do {                                                                                                                 \
         double from = now();                                                                                             \
-        for (int machine = 0; machine < MACHINES; machine++)                                                             \
+        for (int machine = 0; machine < machines; machine++)                                                             \
             for (uint32_t slot = 0; slot < SLOTS; slot++)                                                                \
                 call(machine, slot);                                                                                     \
-        time += now() - from - clock;                                                                                    \
+        time += now() - from;                                                                                            \
+    } while (0)
+
+/* The times of all sends and of all commits, in a round of transactions on so many machines. */
+#define ROUND(begin, send, step, commit, machines, sends, commits)                                                       \
+    do {                                                                                                                 \
+        double sent = 0, committed = 0, other = 0;                                                                       \
+        for (int k = 0; k < TIMES; k++) {                                                                                \
+            ALL(begin, machines, other);                                                                                 \
+            ALL(send, machines, sent);                                                                                   \
+            ALL(step, machines, other);                                                                                  \
+            ALL(commit, machines, committed);                                                                            \
+        }                                                                                                                \
+        sends = least(sends, sent / TIMES);                                                                              \
+        commits = least(commits, committed / TIMES);                                                                     \
     } while (0)
 
 /* Prints the times of calls. */
 #define MEASURE(begin, send, step, commit)                                                                               \
     do {                                                                                                                 \
-        double sent = 1e18, committed = 1e18, whole = 1e18, other = 0, clock = clock_time();                             \
+        double sends = 1e18, commits = 1e18, half_sends = 1e18, half_commits = 1e18, whole = 1e18;                       \
         for (int round = 0; round < ROUNDS; round++) {                                                                   \
-            double sends = 0, commits = 0;                                                                               \
-            for (int k = 0; k < TIMES; k++) {                                                                            \
-                ALL(begin, other);                                                                                       \
-                ALL(send, sends);                                                                                        \
-                ALL(step, other);                                                                                        \
-                ALL(commit, commits);                                                                                    \
-            }                                                                                                            \
-            sent = least(sent, sends / TIMES / CALLS);                                                                   \
-            committed = least(committed, commits / TIMES / CALLS);                                                       \
+            ROUND(begin, send, step, commit, MACHINES, sends, commits);                                                  \
+            ROUND(begin, send, step, commit, HALF, half_sends, half_commits);                                            \
             double from = now();                                                                                         \
             for (int k = 0; k < TIMES * CALLS; k++) {                                                                    \
                 begin(0, 0);                                                                                             \
@@ -104,7 +101,8 @@ static double clock_time(void) {
             }                                                                                                            \
             whole = least(whole, (now() - from) / TIMES / CALLS);                                                        \
         }                                                                                                                \
-        printf("%.1f %.1f %.1f\n", sent, committed, whole);                                                              \
+        double more = (MACHINES - HALF) * SLOTS;                                                                         \
+        printf("%.1f %.1f %.1f\n", (sends - half_sends) / more, (commits - half_commits) / more, whole);                 \
     } while (0)
 
 int main(int count, char **words) {
