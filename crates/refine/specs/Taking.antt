@@ -3,7 +3,7 @@ use Prim.Native.Nat.{ℕ, _+_, _/_, _%_, _^_, _≤_, _<_}
 use native.Mathlib.Omega.{arith}
 use mathlib.Core.Path.{_≡_, refl, sym, ap, ap₂, subst, _∙_}
 use mathlib.Core.Logic.{_≢_}
-use mathlib.Core.Bool.{Bool, true, false, cond, _&&_, _||_, true≢false}
+use mathlib.Core.Bool.{Bool, true, false, cond, _&&_, _||_}
 use mathlib.Core.List.{List, [], _∷_, _++_, map, List·Memᴰ, List·Memᴰ·head, List·Memᴰ·tail}
 use lib.ListN.{length, getD, length-set}
 use lib.Bits.{bitOr}
@@ -16,6 +16,7 @@ use Rattle.model.specs.Vector.{Program}
 use Rattle.model.specs.Message.{Target}
 use Rattle.model.specs.Message as Model
 use Rattle.model.specs.Lock.{Lock, onObject, onClass, domainOf, locksFor}
+use Rattle.theory.specs.Accepted.{or-false}
 use Rattle.words.specs.View.{classCount, objectCount, memberCount, bit}
 use Rattle.words.specs.Bits.{bit-or}
 use Rattle.state.specs.Row.{lockMarked, withBits}
@@ -57,10 +58,6 @@ took-more p row row₁ row₂ held held₂ a b =
 
 -- ---- a word with locks, and its mark
 
-or-none : (a b : Bool) → (a || b) ≡ false → (a ≡ false) × (b ≡ false)
-or-none false b e = (refl, e)
-or-none true b e = absurd (true≢false e)
-
 module _ (row : List ℕ) (size : length row ≡ 2264) (w bits : ℕ) (from : 56 ≤ w) (end : w < 152) where
   abbrev word : ℕ
   word = bitOr (getD row w 0) bits
@@ -88,7 +85,7 @@ module _ (row : List ℕ) (size : length row ≡ 2264) (w bits : ℕ) (from : 56
             ∙ clean .notes k h (ap (λ (m : ℕ). bit m (k % 32)) (sym (marked-other (152 + k / 32) (omega arith) (omega arith))) ∙ e);
         marks = λ e i g h. marked-other i (omega arith) (omega arith) ∙ clean .marks (sym (marked-other 9 (omega arith) (omega arith)) ∙ e) i g h;
         locks = λ i g h e.
-            let free = or-none (bit (getD row 10 0) (i / 8)) (eqb (w / 8) (i / 8)) (sym (mark-is (i / 8)) ∙ e) in
+            let free = or-false (bit (getD row 10 0) (i / 8)) (eqb (w / 8) (i / 8)) (sym (mark-is (i / 8)) ∙ e) in
             marked-other i (omega arith) (λ z. eqb-false (w / 8) (i / 8) (free .1) (ap (λ (j : ℕ). j / 8) (sym z))) ∙ clean .locks i g h (free .0);
         calls = λ z.
             let s = clean .calls (sym (marked-other 11 (omega arith) (omega arith)) ∙ z) in

@@ -3,7 +3,7 @@ use Prim.Native.Nat.{ℕ, zero, suc, _+_, _≤_, _<_}
 use mathlib.Core.Path.{_≡_, refl, sym, ap, ap₂, subst, _∙_}
 use mathlib.Core.Bool.{Bool, true, false, cond, _&&_, _||_}
 use mathlib.Core.Option.{none}
-use mathlib.Core.List.{List, [], _∷_, map}
+use mathlib.Core.List.{List, [], map}
 use native.Mathlib.Omega.{arith}
 use lib.ListN.{length, getD, take, drop, length-map, List·getD-eq-default}
 use lib.Dec.{eqb, ltb}
@@ -18,9 +18,8 @@ use Rattle.model.specs.Vector.{program, programBy, transitive}
 use Rattle.model.specs.Image.{commuteMask}
 use Rattle.model.specs.Message.{sizeOf, baseOf}
 use Rattle.model.specs.Message as Model
-use Rattle.twophase.specs.Base.{All}
 use Rattle.theory.specs.ListLaws.{upto-at, map-at}
-use Rattle.theory.specs.Accepted.{Within, unique-place, Good, all-getD, Sound, Known, Placing, library-sound, library-known, library-placing}
+use Rattle.theory.specs.Accepted.{Within, unique-place, Good, all-getD, all-below, Sound, Known, Placing, library-sound, library-known, library-placing}
 use Rattle.theory.specs.Copies.{Copied, library-copied}
 use Rattle.words.specs.View.{partOf, classWord, objectWord, statementWord, classCount, objectCount, statementCount, memberCount, membersOf, bit, classOf, placedOf, objectOf, libraryOf}
 use Rattle.words.specs.Upto.{length-upto, getD-upto}
@@ -30,12 +29,6 @@ use Rattle.refine.specs.Rep.{statementAt, Distinct, Fits}
 use Rattle.refine.specs.Bits.{bit-mask}
 use Rattle.starting.specs.Worked.{belongs, domainMask, valuesOf, firstValue}
 use Rattle.starting.specs.Stored.{WorkedOut}
-
--- What holds of all elements holds of the one at a place.
-all-below : {A : Type 0} (P : A → Type 0) (xs : List A) (d : A) → All P xs → (k : ℕ) → k < length xs → P (getD xs k d)
-all-below P [] d h k l = absurd (omega arith)
-all-below P (x ∷ xs) d h zero l = h .0
-all-below P (x ∷ xs) d h (suc k) l = all-below P xs d (h .1) k (omega arith)
 
 -- An accepted text is not too long.
 pub accepted-size : (text : List ℕ) (l : Library) → read text ≡ accepted l → length text ≤ 32768

@@ -91,7 +91,7 @@ notedRow row k v =
 
 -- ---- locks
 
--- Word i has locks.
+-- The row with word i marked as one where locks were taken.
 abbrev pub lockMarked : List ℕ → ℕ → List ℕ
 lockMarked row i = set row 10 (bitOr (getD row 10 0) (2 ^ (i / 8 % 32)))
 
@@ -154,9 +154,9 @@ released row =
     let rest = unlocked row in
     cond (eqb (getD row 11 0) 0) (replicate 24 0 ++ drop 24 rest) (replicate 56 0 ++ drop 56 rest)
 
--- "frees the slot": where a value was set the words before the notes are 0, and the notes that were made. No other word is
--- anything but 0 in a row that represents an open slot, so that it is blank then (crates/refine/specs/Freeing.antt); and 8 KiB
--- need not be written.
+-- "frees the slot": the row is released; but where a value was set the words before the notes are 0, and the notes that were made.
+-- No other word is anything but 0 in a row that represents an open slot, so that it is blank then (crates/refine/specs/Freeing.antt);
+-- and 8 KiB need not be written.
 unfoldable pub freed : List ℕ → List ℕ
 unfolding unnoted released
 freed row = cond (eqb (getD row 9 0) 0) (released row) (replicate 216 0 ++ drop 216 (unnoted row))

@@ -29,7 +29,7 @@ same-sym a b e = go (same b a) refl
     go false q = q
     go true q = absurd (true≢false (sym (rw (same-sound b a q) (same-refl a)) ∙ e))
 
-or-false : (a b : Bool) → a || b ≡ false → (a ≡ false) × (b ≡ false)
+pub or-false : (a b : Bool) → a || b ≡ false → (a ≡ false) × (b ≡ false)
 or-false true b e = absurd (true≢false e)
 or-false false b e = (refl, e)
 
@@ -105,6 +105,12 @@ module _ {A : Type 0} (P : A → Type 0) where
   all-getD (x ∷ xs) d h e zero = h .0
   all-getD (x ∷ xs) d h e (suc k) = all-getD xs d (h .1) e k
 
+  -- What holds of all elements holds of the one at a place.
+  pub all-below : (xs : List A) (d : A) → All P xs → (k : ℕ) → k < length xs → P (getD xs k d)
+  all-below [] d h k l = absurd (not-suc-le-zero l)
+  all-below (x ∷ xs) d h zero l = h .0
+  all-below (x ∷ xs) d h (suc k) l = all-below xs d (h .1) k (le-of-suc-le-suc l)
+
   pub all-alter : (Q : A → Type 0) (xs : List A) (n : ℕ) (f : A → A) → ((x : A) → P x → Q x) → ((x : A) → P x → Q (f x)) → All P xs → All Q (alter n f xs)
   unfolding alter
   all-alter Q [] n f keeps does h = tt
@@ -145,12 +151,13 @@ written-unique m (k ∷ ks) u = go (same (k .name) (m .name)) refl (written-uniq
     go true e rest = (subst (λ (n : Name). among ks n ≡ false) (same-sound (k .name) (m .name) e) (u .0), u .1)
     go false e rest = (written-names m ks (k .name) (u .0) (same-sym (k .name) (m .name) e), rest)
 
-written-within : (n : ℕ) (m : Member) (ms : List Member) → Within n m → All (Within n) ms → All (Within n) (written m ms)
+-- What holds of the members and of the new one holds of all.
+pub written-all : (P : Member → Type 0) (m : Member) (ms : List Member) → P m → All P ms → All P (written m ms)
 unfolding written
-written-within n m [] h w = (h, tt)
-written-within n m (k ∷ ks) h w = go (same (k .name) (m .name)) (written-within n m ks h (w .1))
+written-all P m [] h w = (h, tt)
+written-all P m (k ∷ ks) h w = go (same (k .name) (m .name)) (written-all P m ks h (w .1))
   where
-    go : (t : Bool) → All (Within n) (written m ks) → All (Within n) (cond t (m ∷ ks) (k ∷ written m ks))
+    go : (t : Bool) → All P (written m ks) → All P (cond t (m ∷ ks) (k ∷ written m ks))
     go true rest = (h, w .1)
     go false rest = (w .0, rest)
 
@@ -170,7 +177,7 @@ method-good : (n c : ℕ) (m : Name) (k : Class) → ClassGood n k → ClassGood
 unfolding withMethod
 method-good n c m k g =
     let new : Member = record { origin = c; name = m; first = n; count = 0 } in
-    record { unique = written-unique new (k .methods) (g .unique); within = written-within n new (k .methods) (omega arith) (g .within) }
+    record { unique = written-unique new (k .methods) (g .unique); within = written-all (Within n) new (k .methods) (omega arith) (g .within) }
 
 statement-good : (n : ℕ) (k : Class) → ClassGood n k → ClassGood (suc n) (withStatement k)
 unfolding withStatement

@@ -18,20 +18,15 @@ use Rattle.model.specs.Text.{linesAndRest}
 use Rattle.model.specs.Read.{Reading, accepted, refused, unless, libraryIn as libraryOf, judged, orJudged, readPieces, read, library}
 use Rattle.twophase.specs.Base.{All, all-append, all-map}
 use Rattle.theory.specs.ListLaws.{map-at}
-use Rattle.theory.specs.Accepted.{Unique, unique-place, Good, all-getD, alter-length, library-sound}
+use Rattle.theory.specs.Accepted.{Unique, unique-place, Good, all-getD, all-below, written-all, alter-length, library-sound}
 
 -- ---- lists
 
 module _ {A : Type 0} (P : A → Type 0) (d : A) where
-  -- What holds at each place holds of all, and the other way round.
+  -- What holds at each place holds of all.
   all-places : (xs : List A) → ((k : ℕ) → k < length xs → P (getD xs k d)) → All P xs
   all-places [] f = tt
   all-places (x ∷ xs) f = (f 0 (omega arith), all-places xs (λ k h. f (suc k) (omega arith)))
-
-  all-place : (xs : List A) → All P xs → (k : ℕ) → k < length xs → P (getD xs k d)
-  all-place [] h k l = absurd (omega arith)
-  all-place (x ∷ xs) h zero l = h .0
-  all-place (x ∷ xs) h (suc k) l = all-place xs (h .1) k (omega arith)
 
 module _ {A : Type 0} (f : A → A) (d : A) where
   -- The altered element, and each other one.
@@ -69,7 +64,7 @@ Copies cs = (c : ℕ) → All (Copy cs c) (methodsAt cs c)
 writer-has : (cs : List Class) → Copies cs → (c k : ℕ) → k < length (methodsAt cs c)
     → let m = getD (methodsAt cs c) k noMember in (m .origin ≤ c) × Has (methodsAt cs (m .origin)) m
 writer-has cs copies c k h =
-    let p = all-place (Copy cs c) noMember (methodsAt cs c) (copies c) k h in
+    let p = all-below (Copy cs c) (methodsAt cs c) noMember (copies c) k h in
     (p .0, go p (decLt (m .origin) c))
   where
     m : Member
@@ -163,15 +158,6 @@ module _ (l : Library) (copies : Copies (l .classes)) where
   inherited-copies ps = inherited-from [] ps tt
 
 -- ---- what a class writes
-
-written-all : (P : Member → Type 0) (m : Member) (ms : List Member) → P m → All P ms → All P (written m ms)
-unfolding written
-written-all P m [] h w = (h, tt)
-written-all P m (k ∷ ks) h w = go (same (k .name) (m .name)) (written-all P m ks h (w .1))
-  where
-    go : (t : Bool) → All P (written m ks) → All P (cond t (m ∷ ks) (k ∷ written m ks))
-    go true rest = (h, w .1)
-    go false rest = (w .0, rest)
 
 -- A written member stands where its name was found.
 written-there : (m : Member) (ms : List Member) → getD (written m ms) (memberPlace ms (m .name)) noMember ≡ m
