@@ -9,6 +9,8 @@
  *  - 96 KiB of free stack.
  * A text is never altered, and need not be a good one: any bytes get an answer. No call keeps a pointer, allocates, or
  * touches memory that it is not lent. Calls on different memory may run at the same time. Every call ends.
+ * *detail, *line and *size are places for a result, and every call writes them; what else a call is lent is as it was where the
+ * call gives a number (but for 41).
  *
  * Lines are numbered from 1, statements from 0. The numbers of a text's own fault, always tested before any other:
  *   11  text longer than 32,768 bytes (line 0)
@@ -47,7 +49,7 @@ uint32_t cishmolaq_check(const uint8_t *text, size_t text_length, size_t *line);
 uint32_t cishmolaq_compile(const uint8_t *text, size_t text_length, uint8_t *image, size_t image_length, size_t *detail);
 
 /* A statement by its count, as a part of the text: it begins at text + the answer and has *size bytes, LF excluded.
- * The part lies within the text. Where the look-up is refused the answer and *size are 0: ask cishmolaq_statement_fault. */
+ * The part lies within the text. Where the look-up is refused the answer and *size are both 0: ask cishmolaq_statement_fault. */
 size_t cishmolaq_statement(const uint8_t *text, size_t text_length, uint32_t count, size_t *size);
 
 /* The number of looking up that statement.
@@ -63,9 +65,10 @@ uint32_t cishmolaq_statement_fault(const uint8_t *text, size_t text_length, uint
 uint32_t cishmolaq_starting_values(const uint8_t *text, size_t text_length, uint32_t *values, size_t value_count, size_t *line);
 
 /* Writes what `tables` prints for a text (a line for each class and method, or one `refused` line) into the front of
- * `out`, as far as there is room; what lies past it is left as it was.
- * Answers the length of what is printed, which is more than `out_length` where there was no room for all. */
-size_t cishmolaq_print_tables(const uint8_t *text, size_t text_length, uint8_t *out, size_t out_length);
+ * `out`; what lies past it is left as it was.
+ * Answers 0, *detail being the length of what is printed; or, with nothing written,
+ *   21  the buffer is shorter than what is printed, *detail being 0. */
+uint32_t cishmolaq_print_tables(const uint8_t *text, size_t text_length, uint8_t *out, size_t out_length, size_t *detail);
 
 /* ---- The lock machine
  *
@@ -81,19 +84,19 @@ size_t cishmolaq_print_tables(const uint8_t *text, size_t text_length, uint8_t *
  *    1  going
  *    2  the message's answer is in *detail
  *   21  `state_words` is below CISHMOLAQ_STATE_WORDS
- *   22  `value_count` is not the count of all objects' fields
- *   24  text, values and state do not fit
+ *   24  text, values and state do not fit: one names a place or a name that another lacks, or a limit is passed
  *   31  slot above 7
  *   32  slot not open
  *   33  slot open
  *   34  message running
  *   35  no message running
  *   36  no such object, class or method
- *   40  another slot's locks clash; the lowest such slot is in *detail
+ *   40  another slot's locks clash; the lowest such slot, which is open, is in *detail
  *   41  stopped; the transaction is undone and its slot is free
- * *detail is 0 beside any number but 2 and 40. The numbers 21 to 36 are tested in this order; with them and with 40 nothing is
- * altered. 21, 22 and 24 are given only where a call is lent something other than start and the calls left. On such memory a
- * call may also go on by the rules on what it finds; it ends, and touches nothing but what it is lent.
+ * *detail is 0 beside any number but 2 and 40. 21 is tested first, then 24 as far as lengths and the mark of a start show it, then
+ * 31 to 36 in this order, then what else of 24 the call comes upon, then 40. With 21 to 40 nothing is altered. 21 and 24 are given
+ * only where a call is lent something other than start and the calls left. On such memory a call gives 24 or goes on by the rules
+ * on what it finds; it ends, and touches nothing but what it is lent.
  */
 
 /* The length of a state in words of 32 bits, the same for every text; a longer one is good too, and its rest is left alone. */
@@ -113,29 +116,29 @@ uint32_t cishmolaq_start(const uint8_t *text, size_t text_length, const uint32_t
                          size_t state_words, size_t *line);
 
 /* Opens a slot for a transaction.
- * Answers 0; or 21, 22, 24, 31, 33. */
+ * Answers 0; or 21, 24, 31, 33. */
 uint32_t cishmolaq_begin(const uint8_t *text, size_t text_length, uint32_t *state, size_t state_words, const uint32_t *values,
                          size_t value_count, uint32_t slot, uint32_t *detail);
 
 /* Sends the method at a place, with an argument, to the target with this kind and number. A granted send has its locks until
  * commit or abort (or 41), and its message is at its start. Any kind above 2 names nothing: 36.
- * Answers 0; or 21, 22, 24, 31, 32, 34, 36, 40. */
+ * Answers 0; or 21, 24, 31, 32, 34, 36, 40. */
 uint32_t cishmolaq_send(const uint8_t *text, size_t text_length, uint32_t *state, size_t state_words, const uint32_t *values,
                         size_t value_count, uint32_t slot, uint32_t kind, uint32_t number, uint32_t method, uint32_t argument,
                         uint32_t *detail);
 
 /* Runs one statement of the slot's message, or ends a body.
- * Answers 1, 2 or 41; or 21, 22, 24, 31, 32, 35. */
+ * Answers 1, 2 or 41; or 21, 24, 31, 32, 35. */
 uint32_t cishmolaq_step(const uint8_t *text, size_t text_length, uint32_t *state, size_t state_words, uint32_t *values,
                         size_t value_count, uint32_t slot, uint32_t *detail);
 
 /* Frees the slot and leaves the values.
- * Answers 0; or 21, 22, 24, 31, 32, 34. */
+ * Answers 0; or 21, 24, 31, 32, 34. */
 uint32_t cishmolaq_commit(const uint8_t *text, size_t text_length, uint32_t *state, size_t state_words, const uint32_t *values,
                           size_t value_count, uint32_t slot, uint32_t *detail);
 
 /* Puts back, in each field that the transaction set, the value before its first set, and frees the slot.
- * Answers 0; or 21, 22, 24, 31, 32. */
+ * Answers 0; or 21, 24, 31, 32. */
 uint32_t cishmolaq_abort(const uint8_t *text, size_t text_length, uint32_t *state, size_t state_words, uint32_t *values,
                          size_t value_count, uint32_t slot, uint32_t *detail);
 

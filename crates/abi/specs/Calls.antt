@@ -5,37 +5,20 @@ use mathlib.Core.Bool.{cond}
 use mathlib.Core.List.{List}
 use lib.Dec.{eqb}
 use Rattle.model.specs.Machine.{Call, Target, object, class, domain}
+use Rattle.model.specs.Service.{callNumber, callDetail}
 use Rattle.slots.specs.declared.Outcome.{Outcome}
-use Rattle.slots.specs.declared.Outcome.the-variants.{Done, Going, Answer, Refused, Held, Stopped}
+use Rattle.slots.specs.Told.{told}
 use Rattle.cishmolaq.specs.Promises.{Does}
-
--- 0 done (a send: granted), 1 going, 2 the message's answer, else 01's number. No refusal is told as one of the others
--- (`CallLaws.refused-apart`).
-abbrev pub callNumber : Outcome → ℕ
-callNumber Done = 0
-callNumber Going = 1
-callNumber (Answer v) = 2
-callNumber (Refused n) = n
-callNumber (Held t) = 40
-callNumber Stopped = 41
-
--- The message's answer, or the lowest clashing slot; 0 where there is neither.
-abbrev pub callDetail : Outcome → ℕ
-callDetail Done = 0
-callDetail Going = 0
-callDetail (Answer v) = v
-callDetail (Refused n) = 0
-callDetail (Held t) = t
-callDetail Stopped = 0
 
 -- "one target: an object; a class's own objects; or a class's domain", by a kind and a number. Objects are numbered from 0
 -- and there are at most 64, so any other kind names one that is never there: 36 (`CallLaws.another-kind`).
 abbrev pub targetOf : ℕ → ℕ → Target
 targetOf kind n = cond (eqb kind 0) (object n) (cond (eqb kind 1) (class n) (cond (eqb kind 2) (domain n) (object 64)))
 
--- A call on a text, state words and values: an outcome that is all that the entry promises, as a number and a detail.
+-- A call on a text, state words and values: an outcome that is all that the entry promises, as a number and a detail. No refusal is
+-- told as 0, 1, 2, 40 or 41 (`CallLaws.refused-apart`).
 pub record Called (text ws values : List ℕ) (c : Call) (r detail : ℕ) (ws′ values′ : List ℕ) : Type 0 where
   pub outcome : Outcome
   pub does : Does text ws values c outcome ws′ values′
-  pub number : r ≡ callNumber outcome
-  pub beside : detail ≡ callDetail outcome
+  pub number : r ≡ callNumber (told outcome)
+  pub beside : detail ≡ callDetail (told outcome)

@@ -1,30 +1,32 @@
 -- From what the entries ensure to what the C functions tell; and that no refusal is told as 0.
-use Prim.Native.Nat.{ℕ, zero, suc, _+_, _/_, _%_, _≤_, _<_}
-use native.Mathlib.Omega.{arith}
+use Prim.Native.Nat.{ℕ, zero, suc, _+_}
 use mathlib.Core.Path.{_≡_, refl, sym, ap, subst, _∙_}
 use mathlib.Core.Bool.{Bool, true, false, cond}
 use mathlib.Core.Option.{Option, none, some}
 use mathlib.Core.List.{List, [], _∷_}
-use lib.ListN.{length, take, drop, length-take, length-drop, take-append-drop, drop-of-length-le}
-use lib.Seq.{take-append-seam, take-nil}
+use lib.ListN.{length}
 use lib.Dec.{ltb}
 use Rattle.model.specs.Text.{linesAndRest}
 use Rattle.model.specs.Form.{Line, linesFrom, restOf, atStart, firstMisplaced}
 use Rattle.model.specs.Library.{Library, nothing, add}
 use Rattle.model.specs.Fault.{faultOf}
 use Rattle.model.specs.Read.{Reading, accepted, refused, unless, judged, orJudged, readPieces, read}
-use Rattle.model.specs.Image.{statementPart}
-use Rattle.words.specs.View.{partOf}
+use Rattle.model.specs.Told.{Told, done, refusal, numberOf, detailOf, orFault, checkAnswer}
 use Rattle.reader.specs.Verdicts as Verdicts
 use Rattle.reader.specs.declared.Verdict.{Verdict}
 use Rattle.reader.specs.declared.Verdict.the-variants.{Accepted, Refused}
-use Rattle.cishmolaq.specs.Answers.{Told, done, refusal, orFault}
-use Rattle.abi.specs.Numbers.{numberOf, detailOf, Tells, checkAnswer, HandsBack}
+use Rattle.cishmolaq.specs.Answers.{Kept}
+use Rattle.abi.specs.Numbers.{Tells, Writes}
 
 -- ---- numbers and details
 
 pub tells-as : {t u : Told} {r detail : ℕ} → Tells t r detail → t ≡ u → Tells u r detail
 tells-as {r = r} {detail = detail} h e = subst (λ (t : Told). Tells t r detail) e h
+
+-- An entry's answer told, with what it left.
+pub writes-as : {t u : Told} {before result after : List ℕ} {r detail : ℕ} → Tells t r detail → t ≡ u → after ≡ result → Kept t before after
+    → Writes u before result r detail after
+writes-as {before = before} {after = after} h e holds kept = record { tells = tells-as h e; holds = holds; kept = subst (λ (t : Told). Kept t before after) e kept }
 
 abbrev toldOf : Option (ℕ × ℕ) → Told
 toldOf none = done 0
@@ -80,33 +82,3 @@ never-0 text = go (ltb 32768 (length text))
     go : (b : Bool) → refusedWith0 (cond b (refused 11 0) (readPieces (linesAndRest text))) ≡ false
     go true = refl
     go false = second (firstMisplaced 1 atStart ls (restOf (linesAndRest text)))
-
--- ---- a statement by its place and its size
-
-take-length-take : (size : ℕ) (l : List ℕ) → take (length (take size l)) l ≡ take size l
-take-length-take size l = ap (take (length (take size l))) (sym (take-append-drop size l)) ∙ take-append-seam (take size l) (drop size l)
-
-module _ (text : List ℕ) (count : ℕ) where
-  -- Nothing, at the text's start.
-  pub hands-none : [] ≡ statementPart text count → HandsBack text count 0 0
-  hands-none e = record { part = e; within = omega arith }
-
-  -- What a part's word says: the part, and its place where that lies within the text.
-  module _ (w : ℕ) (e : partOf text w ≡ statementPart text count) where
-    part-is : partOf text w ≡ take (w % 65536) (drop (w / 65536) text)
-    part-is = unfold partOf in refl
-
-    pub hands-within : (size : ℕ) → size ≡ length (partOf text w) → w / 65536 < length text → HandsBack text count (w / 65536) size
-    hands-within size q h =
-        let rest = drop (w / 65536) text in
-        let n : size ≡ length (take (w % 65536) rest) = q ∙ ap length part-is in
-        record {
-          part = ap (λ (k : ℕ). take k rest) n ∙ take-length-take (w % 65536) rest ∙ sym part-is ∙ e;
-          within = omega (arith, n, length-take (w % 65536) rest, length-drop (w / 65536) text);
-        }
-
-    pub hands-past : (size : ℕ) → size ≡ length (partOf text w) → length text ≤ w / 65536 → HandsBack text count 0 size
-    hands-past size q h =
-        let empty : partOf text w ≡ [] = part-is ∙ ap (take (w % 65536)) (drop-of-length-le text h) ∙ take-nil (w % 65536) in
-        let n : size ≡ 0 = q ∙ ap length empty in
-        record { part = ap (λ (k : ℕ). take k text) n ∙ sym empty ∙ e; within = omega arith }

@@ -6,17 +6,16 @@ use sends::Target;
 use slots::Outcome;
 ghost use mathlib.Core.Path.{_≡_};
 ghost use lib.ListN.{length};
-ghost use Rattle.model.specs.Image.{compiledInto, startingValuesInto};
-ghost use Rattle.model.specs.Tables.{printed};
-ghost use Rattle.model.specs.Read.{accepted, read};
-ghost use Rattle.model.specs.Service.{begin, send, step, commit, abort};
-ghost use Rattle.model.specs.Machine.{to};
-ghost use Rattle.words.specs.View.{libraryOf};
-ghost use Rattle.image.specs.Append.{Printed};
+ghost use Rattle.model.specs.Told.{checkAnswer};
+ghost use Rattle.model.specs.Image.{compileAnswer, compiledInto, statementAnswer, valuesAnswer, startingValuesInto};
+ghost use Rattle.model.specs.Tables.{printAnswer, printedInto};
+ghost use Rattle.model.specs.Service.{begin, send, step, commit, abort, callNumber, callDetail};
+ghost use Rattle.model.specs.Machine.{to, startAnswer};
+ghost use Rattle.slots.specs.Told.{told};
 ghost use Rattle.sends.specs.Aimed.{aimed};
-ghost use Rattle.cishmolaq.specs.Answers.{said, compileAnswer, valuesAnswer, statementAnswer, startAnswer, StartLeaves};
-ghost use Rattle.abi.specs.Numbers.{Tells, checkAnswer, HandsBack};
-ghost use Rattle.abi.specs.Calls.{callNumber, callDetail, targetOf, Called};
+ghost use Rattle.cishmolaq.specs.Answers.{said, StartLeaves};
+ghost use Rattle.abi.specs.Numbers.{Tells, Writes, HandsBack};
+ghost use Rattle.abi.specs.Calls.{targetOf, Called};
 
 // A number to answer; what goes with it goes through the lent place.
 fn told(number: u32, with: usize, detail: &mut usize) -> u32
@@ -52,28 +51,11 @@ pub extern "C" fn cishmolaq_check(text: &[u8], line: &mut usize) -> u32
 // Writes the image of the text: 0 with its length; or a number with its line.
 #[no_mangle]
 pub extern "C" fn cishmolaq_compile(text: &[u8], image: &mut [u8], detail: &mut usize) -> u32
-    ensures { λ r. ⌜ Tells (compileAnswer (now (text .entry)) (length (now (image .entry)))) r (now (detail .exit)) ⌝ }
-    ensures { λ _. ⌜ now (image .exit) ≡ compiledInto (now (text .entry)) (now (image .entry)) ⌝ }
+    ensures { λ r. ⌜ Writes (compileAnswer (now (text .entry)) (length (now (image .entry)))) (now (image .entry)) (compiledInto (now (text .entry)) (now (image .entry)))
+        r (now (detail .exit)) (now (image .exit)) ⌝ }
 {
     let compiled = cishmolaq::compile(text, image);
     tell(compiled, detail)
-}
-
-// The statement with this count in tables that hold it, by its place and its size; nothing where there is none.
-fn place_at(text: &[u8], tables: &[u32], count: u32, size: &mut usize) -> usize
-    ensures { λ r. ⌜ (read (now (text .entry)) ≡ accepted (libraryOf (now (text .entry)) (now (tables .entry)))
-        → HandsBack (now (text .entry)) count r (now (size .exit))) ⌝ }
-{
-    if count < words::statement_count(tables) {
-        let word = words::get(tables, 3976 + count as usize);
-        let part = words::part_of(text, word);
-        *size = part.len();
-        let place = (word / 65536) as usize;
-        if place < text.len() { place } else { 0 }
-    } else {
-        *size = 0;
-        0
-    }
 }
 
 // The place of the statement with this count in the text, and its size; 0 and 0 where it is refused.
@@ -81,13 +63,9 @@ fn place_at(text: &[u8], tables: &[u32], count: u32, size: &mut usize) -> usize
 pub extern "C" fn cishmolaq_statement(text: &[u8], count: u32, size: &mut usize) -> usize
     ensures { λ r. ⌜ HandsBack (now (text .entry)) count r (now (size .exit)) ⌝ }
 {
-    *size = 0;
-    let mut tables = [0u32; 8072];
-    let verdict = reader::read_text(text, &mut tables);
-    match verdict {
-        Verdict::Refused(_, _) => 0,
-        Verdict::Accepted => place_at(text, &tables, count, size),
-    }
+    let place = cishmolaq::statement_place(text, count);
+    *size = place.size;
+    place.at
 }
 
 // The number that looking up a statement by its count gives, with its line.
@@ -106,19 +84,21 @@ pub extern "C" fn cishmolaq_starting_values(
     values: &mut [u32],
     line: &mut usize,
 ) -> u32
-    ensures { λ r. ⌜ Tells (valuesAnswer (now (text .entry)) (length (now (values .entry)))) r (now (line .exit)) ⌝ }
-    ensures { λ _. ⌜ now (values .exit) ≡ startingValuesInto (now (text .entry)) (now (values .entry)) ⌝ }
+    ensures { λ r. ⌜ Writes (valuesAnswer (now (text .entry)) (length (now (values .entry)))) (now (values .entry)) (startingValuesInto (now (text .entry)) (now (values .entry)))
+        r (now (line .exit)) (now (values .exit)) ⌝ }
 {
     let written = cishmolaq::starting_values(text, values);
     tell(written, line)
 }
 
-// Writes what `tables` prints for the text, as far as there is room, and answers its length.
+// Writes what `tables` prints for the text: 0 with its length, or 21.
 #[no_mangle]
-pub extern "C" fn cishmolaq_print_tables(text: &[u8], out: &mut [u8]) -> usize
-    ensures { λ r. ⌜ Printed (printed (now (text .entry))) (now (out .entry)) r (now (out .exit)) ⌝ }
+pub extern "C" fn cishmolaq_print_tables(text: &[u8], out: &mut [u8], detail: &mut usize) -> u32
+    ensures { λ r. ⌜ Writes (printAnswer (now (text .entry)) (length (now (out .entry)))) (now (out .entry)) (printedInto (now (text .entry)) (now (out .entry)))
+        r (now (detail .exit)) (now (out .exit)) ⌝ }
 {
-    cishmolaq::print_tables(text, out)
+    let printed = cishmolaq::print_tables(text, out);
+    tell(printed, detail)
 }
 
 // Starts a machine in the lent state: 0, or a number with its line.
@@ -148,8 +128,8 @@ fn told_with(number: u32, with: u32, detail: &mut u32) -> u32
 
 // The number of what a call answers; the message's answer or the slot goes through the lent place.
 fn tell_call(outcome: Outcome, detail: &mut u32) -> u32
-    ensures { λ r. ⌜ r ≡ callNumber outcome ⌝ }
-    ensures { λ _. ⌜ now (detail .exit) ≡ callDetail outcome ⌝ }
+    ensures { λ r. ⌜ r ≡ callNumber (told outcome) ⌝ }
+    ensures { λ _. ⌜ now (detail .exit) ≡ callDetail (told outcome) ⌝ }
 {
     match outcome {
         Outcome::Done => told_with(0, 0, detail),

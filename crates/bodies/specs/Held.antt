@@ -1,5 +1,5 @@
 -- What a class has, and what the one that is being read may name, by the tables.
-use Prim.Native.Nat.{ℕ, _/_, _%_, _^_, _+_, _≤_, _<_}
+use Prim.Native.Nat.{ℕ, _+_, _≤_, _<_}
 use mathlib.Core.Path.{_≡_, sym, ap, ap₂, _∙_}
 use mathlib.Core.Logic.{_≢_}
 use mathlib.Core.Bool.{Bool, true, false, not, cond, _&&_, _||_}
@@ -7,7 +7,7 @@ use mathlib.Core.List.{List, [], _∷_}
 use native.Mathlib.Omega.{arith}
 use lib.ListN.{length, take, drop}
 use lib.Seq.{take-all}
-use lib.Dec.{eqb, ltb}
+use lib.Dec.{ltb}
 use borrow.Author.Tests.{le-ltb, eq-eqb, ne-eqb}
 use Rattle.model.specs.Base.{any, upto}
 use Rattle.model.specs.Text.{pieces}
@@ -57,9 +57,9 @@ module _ (text ws : List ℕ) where
     pub stray : (w : List ℕ) {a b : Bool} → a ≡ isName w → b ≡ among (part 0 (classAt (libraryOf text ws) k)) w → (a && not b) ≡ isStray (libraryOf text ws) w
     stray w p q = ap₂ (λ (a b : Bool). a && not b) p (q ∙ ap (λ (c : Class). among (c .fields) w) (last-at k h))
 
-    pub ancestor : (d : ℕ) {w : ℕ} → k < classCount ws → w ≡ classWord ws k 3 → eqb (w / 2 ^ d % 2) 1 ≡ lastClass (libraryOf text ws) .ancestors d
-    unfolding classOf bit
-    ancestor d l e = ap (λ (m : ℕ). eqb (m / 2 ^ d % 2) 1) e ∙ ap (λ (c : Class). c .ancestors d) (sym (class-at text ws k l) ∙ last-at k h)
+    pub ancestor : (d : ℕ) {w : ℕ} → k < classCount ws → w ≡ classWord ws k 3 → bit w d ≡ lastClass (libraryOf text ws) .ancestors d
+    unfolding classOf
+    ancestor d l e = ap (λ (m : ℕ). bit m d) e ∙ ap (λ (c : Class). c .ancestors d) (sym (class-at text ws k l) ∙ last-at k h)
 
     pub no-ancestor : (d : ℕ) → classCount ws ≤ k → false ≡ lastClass (libraryOf text ws) .ancestors d
     no-ancestor d l = ap (λ (c : Class). c .ancestors d) (sym (class-past text ws k l) ∙ last-at k h)

@@ -11,14 +11,14 @@ use lib.Dec.{leb, ltb}
 use borrow.Author.Tests.{ltb-true, ltb-false, leb-true, leb-false}
 use Rattle.model.specs.Base.{same, any, every, firstAt}
 use Rattle.model.specs.Text.{words}
-use Rattle.model.specs.Word.{Name, isName, isNameByte, beginsWithLetter, decimal}
+use Rattle.model.specs.Word.{Name, isName, isNameByte, beginsWithLetter, isNumber, decimal}
 use Rattle.model.specs.Form.{objectLine, formOf}
 use Rattle.model.specs.Library.{classNumber, isClass, className, add}
 use Rattle.model.specs.Fault.{objectFault}
 use Rattle.lex.specs.Tests.{and-true}
 use Rattle.lex.specs.Scan.{isByte, before, before-le}
 use Rattle.lex.specs.Piece.{wordsAfter, first, endAfter, next-piece, end-after-none, behind, at-end}
-use Rattle.words.specs.View.{nameOf, partOf, numbersIn, classCount, objectCount, memberAt, libraryOf}
+use Rattle.words.specs.View.{nameOf, partOf, valueOf, numbersIn, classCount, objectCount, memberAt, libraryOf}
 use Rattle.words.specs.Upto.{length-upto}
 use Rattle.words.specs.Names.{nameWord, partWord, name-word-name, part-word-part}
 use Rattle.words.specs.Look.{shownCount, object-count, shown-members, is-class, is-object}
@@ -81,9 +81,13 @@ name-size n e =
     let s = beginsWithLetter n && leb (length n) 16 in
     leb-true (length n) 16 (and-true (beginsWithLetter n) (and-true s (and-true (s && every isNameByte n) e .0) .0) .1)
 
-numbers-in : (s : List ℕ) → numbersIn s ≡ map (decimal 0) (wordsAfter s)
-numbers-in [] = refl
-numbers-in (x ∷ s) = refl
+-- Numbers say what their digits say.
+numbers-said : (ps : List (List ℕ)) → every isNumber ps ≡ true → map valueOf ps ≡ map (decimal 0) ps
+unfolding every valueOf
+numbers-said [] e = refl
+numbers-said (p ∷ ps) e =
+    let t = and-true (isNumber p) e in
+    rw (t .0) (ap (λ (vs : List ℕ). decimal 0 p ∷ vs) (numbers-said ps (t .1)))
 
 room : (a b c d : Bool) → objectLowest a b (c || d) ≡ 0 → c ≡ false
 room true b c d e = absurd (omega arith)
@@ -161,8 +165,8 @@ module _ (text ws : List ℕ) (at end : ℕ) (lent : Lent text ws at end) where
           ap numbersIn
           (part-word-part text (at + g) (length line - g) (omega (arith, size, lent .order, lent .within, lent .small, class-within)) (omega (arith, size, lent .within, lent .small))
           ∙ from g class-within)
-          ∙ numbers-in (drop g line)
-          ∙ ap (map (decimal 0)) behind-class
+          ∙ ap (map valueOf) behind-class
+          ∙ numbers-said (parts .values) (parts .allNumbers)
           ∙ sym (parts .numbers)
 
     -- ---- the line, with its name, its class and the number of its values, and what they deserve

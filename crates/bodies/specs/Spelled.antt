@@ -24,6 +24,7 @@ pub record ObjectWords (ws : List (List ℕ)) (n c : Name) (vs : List ℕ) : Typ
   pub values : List (List ℕ)
   pub line : ws ≡ n ∷ c ∷ values
   pub name : isName n ≡ true
+  pub allNumbers : every isNumber values ≡ true
   pub numbers : vs ≡ map (decimal 0) values
 
 -- The words ws behind its keyword are those of the form.
@@ -62,7 +63,7 @@ object-spelled (n ∷ []) = tt
 object-spelled (n ∷ c ∷ vs) =
     let t = isName n && isName c in
     if-spelled (n ∷ c ∷ vs) (t && every isNumber vs) (objectLine n c (map (decimal 0) vs))
-    (λ e. record { values = vs; line = refl; name = and-true (isName n) (and-true t e .0) .0; numbers = refl })
+    (λ e. record { values = vs; line = refl; name = and-true (isName n) (and-true t e .0) .0; allNumbers = and-true t e .1; numbers = refl })
 
 statement-spelled : (ws : List (List ℕ)) (g : Option Expression) (a : Option Action) → Spelled ws (statementForm g a)
 statement-spelled ws g none = tt

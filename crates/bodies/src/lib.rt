@@ -109,12 +109,11 @@ fn has_method(text: &[u8], tables: &[u32], below: usize, class: u32, method: &[u
 
 // The class with a number is a proper ancestor of the one that is being read.
 fn is_ancestor(tables: &[u32], class: u32) -> bool
-    requires { ⌜ class < 32 ⌝ }
     ensures { λ r. ⌜ ((text : List ℕ) → r ≡ lastClass (libraryOf text (now (tables .entry))) .ancestors class) ⌝ }
 {
     let last = last_class(tables);
     if last < words::class_count(tables) {
-        (words::class_word(tables, last, 3) >> class) % 2 == 1
+        words::has_bit(words::class_word(tables, last, 3), class)
     } else {
         false
     }

@@ -31,21 +31,26 @@ fn print_front(part: &[u8], size: usize) {
     }
 }
 
+// Writes what a call has put into a part out; nothing where it was refused.
+fn print_done(part: &[u8], answer: cishmolaq::Answer) {
+    match answer {
+        cishmolaq::Answer::Done(size) => print_front(part, size),
+        cishmolaq::Answer::Refused(_, _) => {}
+    }
+}
+
 // Writes what `tables` prints for the text.
 fn print_lines(text: &[u8]) {
     let mut lines = [0u8; 66560];
-    let size = cishmolaq::print_tables(text, &mut lines);
-    print_front(&lines, size);
+    let answer = cishmolaq::print_tables(text, &mut lines);
+    print_done(&lines, answer);
 }
 
 // Writes the image of the text, nothing where it is refused.
 fn print_image(text: &[u8]) {
     let mut image = [0u8; 38936];
     let answer = cishmolaq::compile(text, &mut image);
-    match answer {
-        cishmolaq::Answer::Done(size) => print_front(&image, size),
-        cishmolaq::Answer::Refused(_, _) => {}
-    }
+    print_done(&image, answer);
 }
 
 // Reads the file and writes its answers.

@@ -1,60 +1,59 @@
--- What the entries over a whole text answer, by 01's numbers, and what they leave in the memory lent.
-use Prim.Native.Nat.{ℕ}
+-- What the entries over a whole text answer, as the model tells it, and what they leave in the memory lent.
+use Prim.Native.Nat.{ℕ, _+_, _≤_}
 use mathlib.Core.Path.{_≡_}
-use mathlib.Core.Bool.{cond}
 use mathlib.Core.List.{List}
 use lib.ListN.{length, drop}
-use lib.Dec.{eqb, ltb}
-use Rattle.model.specs.Library.{Library}
-use Rattle.model.specs.Read.{Reading, accepted, refused, read, library}
-use Rattle.model.specs.Image.{image, imageOf, compiledInto, startingValues, startingValuesInto}
+use Rattle.model.specs.Read.{library}
+use Rattle.model.specs.Told.{Told, done, refusal, fitted, into}
+use Rattle.model.specs.Image.{compileAnswer, compiledInto, statementPlace, valuesAnswer, startingValuesInto}
+use Rattle.model.specs.Tables.{printAnswer, printedInto}
 use Rattle.model.specs.Vector.{program}
-use Rattle.state.specs.Calls.{stateWords}
+use Rattle.model.specs.Machine.{stateWords, startAnswer}
 use Rattle.refine.specs.Rep.{Fresh}
+use Rattle.cishmolaq.specs.declared.Place.{Place}
 use Rattle.cishmolaq.specs.declared.Answer.{Answer}
 use Rattle.cishmolaq.specs.declared.Answer.the-variants.{Done, Refused}
 
 -- Done, with a length where one is asked for; or a number and a line (0 where it has none).
-pub data Told : Type 0 where
-  done : ℕ → Told
-  refusal : ℕ → ℕ → Told
-
 abbrev pub said : Answer → Told
 said (Done n) = done n
 said (Refused number line) = refusal number line
 
--- A text's own fault, or what comes after it.
-abbrev pub orFault : Reading → (Library → Told) → Told
-orFault (accepted l) told = told l
-orFault (refused number line) told = refusal number line
+-- With a number, what was lent is as it was.
+abbrev pub Kept : Told → List ℕ → List ℕ → Type 0
+Kept (done n) before after = Unit {0}
+Kept (refusal number line) before after = after ≡ before
 
--- "21 image buffer shorter than the image"
-unfoldable pub compileAnswer : List ℕ → ℕ → Told
-compileAnswer text size = orFault (read text) (λ l. cond (ltb size (length (image text))) (refusal 21 0) (done (length (image text))))
-
--- "22 values of another count than the fields"
-unfoldable pub valuesAnswer : List ℕ → ℕ → Told
-valuesAnswer text count = orFault (read text) (λ l. cond (eqb count (length (startingValues l))) (done 0) (refusal 22 0))
-
--- "23 statement count too high"
-unfoldable pub statementAnswer : List ℕ → ℕ → Told
-statementAnswer text count = orFault (read text) (λ l. cond (ltb count (length (l .statements))) (done 0) (refusal 23 0))
-
--- "Builder of the host program; after the text's own faults": 21, then 22.
-unfoldable pub startAnswer : List ℕ → ℕ → ℕ → Told
-startAnswer text count size = orFault (read text) (λ l. cond (ltb size stateWords) (refusal 21 0) (cond (eqb count (length (startingValues l))) (done 0) (refusal 22 0)))
+-- The answer of writing a run into a buffer, and the buffer after it.
+pub record Fits (run buffer : List ℕ) (r : Answer) (after : List ℕ) : Type 0 where
+  pub says : said r ≡ fitted run (length buffer)
+  pub bytes : after ≡ into run buffer
+  pub kept : Kept (said r) buffer after
 
 -- The answer of `compile`, and the buffer after it.
 pub record Compiles (text buffer : List ℕ) (r : Answer) (after : List ℕ) : Type 0 where
   pub says : said r ≡ compileAnswer text (length buffer)
   pub bytes : after ≡ compiledInto text buffer
+  pub kept : Kept (said r) buffer after
+
+-- The answer of `print_tables`, and the buffer after it.
+pub record Prints (text buffer : List ℕ) (r : Answer) (after : List ℕ) : Type 0 where
+  pub says : said r ≡ printAnswer text (length buffer)
+  pub bytes : after ≡ printedInto text buffer
+  pub kept : Kept (said r) buffer after
+
+-- Where `statement_place` says that a statement stands, which is within the text.
+pub record Stands (text : List ℕ) (count : ℕ) (r : Place) : Type 0 where
+  pub place : statementPlace text count ≡ (r .at, r .size)
+  pub within : r .at + r .size ≤ length text
 
 -- The answer of `starting_values`, and the list after it.
 pub record Starts (text list : List ℕ) (r : Answer) (after : List ℕ) : Type 0 where
   pub says : said r ≡ valuesAnswer text (length list)
   pub values : after ≡ startingValuesInto text list
+  pub kept : Kept (said r) list after
 
--- What a start leaves: the words of a fresh start, and what lies past them as it was; where it is refused, all as it was.
+-- What a start leaves: the words of a fresh start, and what lies past them as it was; with a number, all as it was.
 abbrev pub StartLeaves : List ℕ → List ℕ → List ℕ → Told → List ℕ → Type 0
 StartLeaves text values ws (done n) after = Fresh text after values (program (library text)) × (drop stateWords after ≡ drop stateWords ws)
 StartLeaves text values ws (refusal number line) after = after ≡ ws

@@ -2,7 +2,7 @@ pub mod Answers
 pub mod Lines
 pub mod Laws
 pub mod Start
-pub mod Past
+pub mod Keeps
 pub mod Promises
 pub mod Made
 pub mod PlainCourse

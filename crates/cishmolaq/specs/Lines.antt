@@ -1,7 +1,7 @@
 -- The line of a fault is a small number.
 use Prim.Native.Nat.{ℕ, zero, suc, _+_, _≤_, _<_}
 use native.Mathlib.Omega.{arith}
-use mathlib.Core.Path.{_≡_, refl, ap, _∙_}
+use mathlib.Core.Path.{_≡_, refl, ap}
 use mathlib.Core.Bool.{Bool, true, false, cond}
 use mathlib.Core.List.{List, [], _∷_}
 use lib.ListN.{length}
@@ -11,7 +11,7 @@ use Rattle.model.specs.Text.{cut, pieces, linesAndRest}
 use Rattle.model.specs.Form.{Line, Place, linesFrom, restOf, atStart, mayStand, placeAfter, placeNumber, withinBody, firstMisplaced}
 use Rattle.model.specs.Library.{Library, nothing, add}
 use Rattle.model.specs.Fault.{faultOf}
-use Rattle.model.specs.Read.{Reading, accepted, refused, faultAndLine, unless, judged, orJudged, readPieces, read}
+use Rattle.model.specs.Read.{Reading, refused, faultAndLine, unless, judged, orJudged, readPieces, read}
 
 lines-few : (ps : List (List ℕ)) (at : ℕ) → length (linesFrom at ps) ≤ length ps
 unfolding linesFrom

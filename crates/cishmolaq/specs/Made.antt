@@ -6,11 +6,10 @@ use lib.ListN.{length}
 use Rattle.model.specs.Read.{library}
 use Rattle.model.specs.Vector.{Program}
 use Rattle.model.specs.Message.{baseOf}
-use Rattle.model.specs.Service.{Answer, World}
+use Rattle.model.specs.Service.{Answer, done, going, answer, refuse, held, stopped, World}
 use Rattle.model.specs.Machine.{Call, service}
-use Rattle.state.specs.Calls.{Answered, done, goes, halt, answer, number, held, tablesOf, called}
+use Rattle.state.specs.Calls.{tablesOf, called}
 use Rattle.refine.specs.Rep.{Rep}
-use Rattle.refine.specs.Rep as Words
 use Rattle.refine.specs.Tables.{object-total}
 use Rattle.refine.specs.State.{fit-is}
 use Rattle.refine.specs.Course.{AfterAll, calledAll}
@@ -25,10 +24,6 @@ pub data Made (text : List ℕ) : List ℕ → List ℕ → List Call → List O
   then : {ws values ws₁ values₁ ws₂ values₂ : List ℕ} {c : Call} {r : Outcome} {cs : List Call} {rs : List Outcome}
       → Does text ws values c r ws₁ values₁ → Made text ws₁ values₁ cs rs ws₂ values₂ → Made text ws values (c ∷ cs) (r ∷ rs) ws₂ values₂
 
--- An answer as the model has it.
-abbrev pub answered : Outcome → Answer
-answered r = Words.told (told r)
-
 -- They are the definition's list of calls.
 pub made-is : {text ws values ws′ values′ : List ℕ} {cs : List Call} {rs : List Outcome} → Made text ws values cs rs ws′ values′
     → (map told rs ≡ calledAll text ws values cs .answers) × (ws′ ≡ calledAll text ws values cs .words) × (values′ ≡ calledAll text ws values cs .values)
@@ -39,20 +34,20 @@ made-is {text} {ws} {values} (then {ws₁ = ws₁} {values₁ = values₁} {c = 
     let e : calledAll text ws₁ values₁ cs ≡ calledAll text (x .words) (x .values) cs =
     ap₂ (λ (l k : List ℕ). calledAll text l k cs) (d .any .words-are) (d .any .values-are) in
     let h = made-is m in (
-      ap₂ (λ (a : Answered) (l : List Answered). a ∷ l) (d .any .says) (h .0 ∙ ap (λ (y : AfterAll). y .answers) e),
+      ap₂ (λ (a : Answer) (l : List Answer). a ∷ l) (d .any .says) (h .0 ∙ ap (λ (y : AfterAll). y .answers) e),
       h .1 ∙ ap (λ (y : AfterAll). y .words) e,
       h .2 ∙ ap (λ (y : AfterAll). y .values) e,
     )
 
 -- ---- answers and counts
 
-untold : Answered → Outcome
+untold : Answer → Outcome
 untold done = Say.Done
-untold goes = Say.Going
-untold halt = Say.Stopped
+untold going = Say.Going
 untold (answer v) = Say.Answer v
-untold (number n) = Say.Refused n
+untold (refuse n) = Say.Refused n
 untold (held t) = Say.Held t
+untold stopped = Say.Stopped
 
 told-back : (r : Outcome) → untold (told r) ≡ r
 unfolding untold
@@ -70,10 +65,6 @@ all-back (r ∷ rs) = ap₂ (λ (x : Outcome) (xs : List Outcome). x ∷ xs) (to
 -- Answers that say the same are the same.
 pub told-same : (rs rs′ : List Outcome) → map told rs ≡ map told rs′ → rs ≡ rs′
 told-same rs rs′ e = sym (all-back rs) ∙ ap (map untold) e ∙ all-back rs′
-
-pub all-answered : (rs : List Outcome) → map Words.told (map told rs) ≡ map answered rs
-all-answered [] = refl
-all-answered (r ∷ rs) = ap (λ (l : List Answer). answered r ∷ l) (all-answered rs)
 
 -- Words that represent a world have a value for each field.
 pub rep-count : (text ws values : List ℕ) (p : Program) (w : World (service p)) → Rep text ws values p w → length values ≡ baseOf p (length (p .library .objects))

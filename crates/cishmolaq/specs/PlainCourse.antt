@@ -4,29 +4,31 @@ use native.Mathlib.Omega.{arith}
 use mathlib.Core.Path.{_≡_, refl, sym, ap, subst, _∙_}
 use mathlib.Core.Bool.{Bool, true, false, cond}
 use mathlib.Core.List.{List, map}
-use lib.ListN.{length, getD}
+use lib.ListN.{length}
 use lib.Dec.{eqb, ltb}
 use borrow.Author.Tests.{le-ltb}
 use Rattle.model.specs.Read.{Reading, accepted, refused, read, library}
 use Rattle.model.specs.Image.{startingValues}
 use Rattle.model.specs.Vector.{Program, program}
-use Rattle.model.specs.Service.{Answer, World, fresh, runCalls}
+use Rattle.model.specs.Service.{Answer, World, closed, fresh, runCalls}
 use Rattle.model.specs.Machine.{Call, service}
 use Rattle.model.specs.Course.{course}
 use Rattle.twophase.specs.Base.{All}
 use Rattle.twophase.specs.Claims.{Right}
 use Rattle.theory.specs.VectorLaws.{program-compiled}
-use Rattle.state.specs.Calls.{done, stateWords, rowOf}
+use Rattle.state.specs.Calls.{rowOf, phaseOf}
 use Rattle.refine.specs.Rep.{Rep, Fresh}
-use Rattle.refine.specs.Rep as Words
+use Rattle.refine.specs.State.{phase-closed, closed-phase}
 use Rattle.refine.specs.Refines.{fresh-rep}
 use Rattle.refine.specs.Course.{AfterAll, calledAll, all-refine, InOrder, in-order}
 use Rattle.slots.specs.declared.Outcome.{Outcome}
 use Rattle.slots.specs.Told.{told}
 use Rattle.cishmolaq.specs.declared.Answer as Start
-use Rattle.cishmolaq.specs.Answers as Entry
-use Rattle.cishmolaq.specs.Answers.{Told, refusal, said, orFault, startAnswer, StartLeaves, Begins}
-use Rattle.cishmolaq.specs.Made.{Made, answered, made-is, told-same, all-answered, rep-count}
+use Rattle.model.specs.Told as Entry
+use Rattle.model.specs.Told.{Told, refusal, orFault}
+use Rattle.model.specs.Machine.{stateWords, startAnswer}
+use Rattle.cishmolaq.specs.Answers.{said, StartLeaves, Begins}
+use Rattle.cishmolaq.specs.Made.{Made, made-is, told-same, rep-count}
 
 -- ---- demand 3
 
@@ -57,16 +59,24 @@ start-again text count count′ size size′ e q h = go (read text) e
     go (accepted l) d = rw (le-ltb size′ stateWords h, q, by-count (ltb size stateWords) (eqb count (length (startingValues l))) d)
     go (refused n line) d = d
 
--- "leaves nothing open": the phase of each slot is 0, closed.
+-- "leaves nothing open": the phase of each slot is 0 ..
 abbrev pub NothingOpen : List ℕ → Type 0
-NothingOpen ws = (t : ℕ) → t < 8 → getD (rowOf ws t) 0 0 ≡ 0
+NothingOpen ws = (t : ℕ) → t < 8 → phaseOf (rowOf ws t) ≡ 0
+
+-- .. exactly if each slot is closed in the world that the words represent.
+module _ (text ws values : List ℕ) (p : Program) (w : World (service p)) (rep : Rep text ws values p w) where
+  pub nothing-open : NothingOpen ws → (t : ℕ) → t < 8 → w .slots t ≡ closed
+  nothing-open shut t h = phase-closed text ws values p w rep t h (shut t h)
+
+  pub all-closed : ((t : ℕ) → t < 8 → w .slots t ≡ closed) → NothingOpen ws
+  all-closed shut t h = closed-phase text ws values p w rep t h (shut t h)
 
 -- What demand 3 says of a list of calls after a start on `values`, by their answers and by what they left.
 pub record PlainCourse (text values : List ℕ) (cs : List Call) (rs : List Outcome) (ws′ values′ : List ℕ) : Type 0 where
   -- "ends with the fields .. of the plain course"
-  pub same-fields : values′ ≡ course text values cs (map answered rs) .fields
+  pub same-fields : values′ ≡ course text values cs (map told rs) .fields
   -- "and gave committed transactions the answers .. of the plain course"
-  pub same-answers : All Right (course text values cs (map answered rs) .compared)
+  pub same-answers : All Right (course text values cs (map told rs) .compared)
   -- "and from then on the machine behaves as after a new start on those fields"
   pub as-new : (state : List ℕ) (r : Start.Answer) (new : List ℕ) → Begins text values′ state r new → said r ≡ Entry.done 0
       → (more : List Call) {rs₁ rs₂ : List Outcome} {ws₁ values₁ ws₂ values₂ : List ℕ}
@@ -102,10 +112,10 @@ demand-3 text values state r ws begins e {cs} {rs} {ws′} {values′} made shut
     m = made-is made
 
     all : InOrder text p values cs x
-    all = in-order text ws values p (program-compiled (library text)) start cs (λ t h. subst (λ (l : List ℕ). getD (rowOf l t) 0 0 ≡ 0) (m .1) (shut t h))
+    all = in-order text ws values p (program-compiled (library text)) start cs (λ t h. subst (λ (l : List ℕ). phaseOf (rowOf l t) ≡ 0) (m .1) (shut t h))
 
-    answers : map Words.told (x .answers) ≡ map answered rs
-    answers = ap (map Words.told) (sym (m .0)) ∙ all-answered rs
+    answers : x .answers ≡ map told rs
+    answers = sym (m .0)
 
     first : Rep text ws values p (fresh (service p) values)
     first = fresh-rep text ws values p start
@@ -113,7 +123,7 @@ demand-3 text values state r ws begins e {cs} {rs} {ws′} {values′} made shut
     after : List Answer × World (service p)
     after = runCalls (service p) (fresh (service p) values) cs
 
-    reached : (map Words.told (x .answers) ≡ after .0) × Rep text (x .words) (x .values) p (after .1)
+    reached : (x .answers ≡ after .0) × Rep text (x .words) (x .values) p (after .1)
     reached = all-refine text ws values p (fresh (service p) values) first cs
 
     same-count : length values′ ≡ length values

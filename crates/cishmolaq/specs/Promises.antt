@@ -4,39 +4,56 @@ use mathlib.Core.Path.{_≡_, sym, ap, subst, _∙_}
 use mathlib.Core.List.{List}
 use lib.ListN.{drop}
 use Rattle.model.specs.Vector.{Program}
-use Rattle.model.specs.Service.{World}
-use Rattle.model.specs.Machine.{Call, call, service}
-use Rattle.state.specs.Calls.{number, stateWords, called}
-use Rattle.refine.specs.Rep as Words
+use Rattle.model.specs.Service.{World, Answer, refuse}
+use Rattle.model.specs.Machine.{Call, call, service, stateWords}
+use Rattle.state.specs.Calls.{After, slotIn, called}
 use Rattle.refine.specs.Rep.{Rep}
 use Rattle.refine.specs.Refines.{refines}
 use Rattle.refine.specs.Refusals.{never-unfit}
 use Rattle.slots.specs.declared.Outcome.{Outcome}
 use Rattle.slots.specs.Told.{told, Leaves}
-use Rattle.cishmolaq.specs.Past.{past-kept}
+use Rattle.cishmolaq.specs.Keeps.{Kept, Holder, Numbered, Keeps, every-call}
 
 -- A call on a text, state words and values, with its answer and what it left.
 pub record Does (text ws values : List ℕ) (c : Call) (r : Outcome) (ws′ values′ : List ℕ) : Type 0 where
   -- Demand 1: "a call gives 24 or follows the rules below on what it finds", whatever is lent, as the definition says.
   pub any : Leaves (called text ws values c) r ws′ values′
+  -- With every number but 41 the words and the values are those lent.
+  pub kept : Kept (told r) ws values ws′ values′
   -- What lies past the machine's words is as it was.
   pub past : drop stateWords ws′ ≡ drop stateWords ws
+  -- 40 names another slot, which is open in the words lent.
+  pub holder : Holder ws (slotIn c) (told r)
+  -- A refusal's number is one of 21 to 36.
+  pub number : Numbered (told r)
   -- Demand 2: on what start and the calls left, the words represent a world of the machine, and the answer is the model's ..
-  pub says : (p : Program) (w : World (service p)) → Rep text ws values p w → Words.told (told r) ≡ call p w c .0
+  pub says : (p : Program) (w : World (service p)) → Rep text ws values p w → told r ≡ call p w c .0
   -- .. what is left represents the world after the call ..
   pub next : (p : Program) (w : World (service p)) → Rep text ws values p w → Rep text ws′ values′ p (call p w c .1)
-  -- .. and 21, 22 and 24 are never given: "only where a call is lent something other than start and the machine's calls left".
-  pub fits : (p : Program) (w : World (service p)) → Rep text ws values p w → (n : ℕ) → told r ≡ number n → 31 ≤ n
+  -- .. and 21 and 24 are never given: "only where a call is lent something other than start and the machine's calls left".
+  pub fits : (p : Program) (w : World (service p)) → Rep text ws values p w → (n : ℕ) → told r ≡ refuse n → 31 ≤ n
 
 -- What keeps to the definition keeps all of it.
 pub promised : (text ws values : List ℕ) (c : Call) (r : Outcome) (ws′ values′ : List ℕ) → Leaves (called text ws values c) r ws′ values′
     → Does text ws values c r ws′ values′
 promised text ws values c r ws′ values′ h = record {
   any = h;
-  past = ap (drop stateWords) (h .words-are) ∙ past-kept text ws values c;
-  says = λ p w rep. ap Words.told (h .says) ∙ refines text ws values p w rep c .0;
+  kept =
+      subst (λ (l : List ℕ). Kept (told r) ws values l values′) (sym (h .words-are))
+      (subst (λ (l : List ℕ). Kept (told r) ws values (x .words) l) (sym (h .values-are))
+      (subst (λ (a : Answer). Kept a ws values (x .words) (x .values)) (sym (h .says)) (all .kept)));
+  past = ap (drop stateWords) (h .words-are) ∙ all .past;
+  holder = subst (Holder ws (slotIn c)) (sym (h .says)) (all .holder);
+  number = subst Numbered (sym (h .says)) (all .number);
+  says = λ p w rep. h .says ∙ refines text ws values p w rep c .0;
   next = λ p w rep.
       subst (λ (l : List ℕ). Rep text l values′ p (call p w c .1)) (sym (h .words-are))
-      (subst (λ (l : List ℕ). Rep text (called text ws values c .words) l p (call p w c .1)) (sym (h .values-are)) (refines text ws values p w rep c .1));
+      (subst (λ (l : List ℕ). Rep text (x .words) l p (call p w c .1)) (sym (h .values-are)) (refines text ws values p w rep c .1));
   fits = λ p w rep n e. never-unfit text ws values p w rep c n (sym (h .says) ∙ e);
 }
+  where
+    x : After
+    x = called text ws values c
+
+    all : Keeps ws values (slotIn c) x
+    all = every-call text ws values c

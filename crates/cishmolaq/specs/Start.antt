@@ -10,12 +10,12 @@ use Rattle.model.specs.Image.{startingValues}
 use Rattle.model.specs.Vector.{program}
 use Rattle.words.specs.View.{libraryOf}
 use Rattle.image.specs.Sizes.{valueCount}
-use Rattle.state.specs.Calls.{stateWords}
+use Rattle.model.specs.Machine.{stateWords, startAnswer}
 use Rattle.refine.specs.Rep.{Fresh}
 use Rattle.starting.specs.Started.{Fill}
 use Rattle.starting.specs.Installed.{installed, rest-there, fresh-start}
 use Rattle.cishmolaq.specs.declared.Answer.the-variants.{Done, Refused}
-use Rattle.cishmolaq.specs.Answers.{startAnswer, Begins}
+use Rattle.cishmolaq.specs.Answers.{Begins}
 use Rattle.cishmolaq.specs.Laws.{count-is}
 
 module _ (text values ws : List ℕ) where

@@ -1,23 +1,23 @@
-// The public entries over a text: its verdict, its image, its statements, its starting values, the lines that `tables` prints,
-// and a start on it. Each is total, reads the text anew into tables of its own, and writes what is lent only where nothing is
-// refused.
+// The public entries. Those over a text (its verdict, its image, its statements, its starting values, the lines that `tables`
+// prints, a start on it) read the text anew into tables of their own. The calls of the machine work on the lent state. Each is
+// total, and writes to what is lent only where it gives no number, or 41.
 use reader::Verdict;
 use sends::Target;
 use slots::Outcome;
-ghost use Prim.Native.Nat.{_≤_};
+ghost use Prim.Native.Nat.{ℕ};
 ghost use mathlib.Core.Path.{_≡_};
+ghost use mathlib.Core.List.{List};
 ghost use lib.ListN.{length};
-ghost use Rattle.model.specs.Image.{statementPart};
-ghost use Rattle.model.specs.Tables.{printed};
 ghost use Rattle.model.specs.Read.{accepted, read};
+ghost use Rattle.model.specs.Image.{statementAnswer, statementPlace, statementPart};
+ghost use Rattle.model.specs.Tables.{refusalPrinted};
 ghost use Rattle.model.specs.Service.{begin, send, step, commit, abort};
 ghost use Rattle.model.specs.Machine.{to};
 ghost use Rattle.words.specs.View.{libraryOf};
-ghost use Rattle.image.specs.Append.{Printed};
 ghost use Rattle.reader.specs.Verdicts.{Checks};
 ghost use Rattle.sends.specs.Aimed.{aimed};
 ghost use Rattle.cishmolaq.specs.Promises.{Does};
-ghost use Rattle.cishmolaq.specs.Answers.{said, statementAnswer, Compiles, Starts, Begins};
+ghost use Rattle.cishmolaq.specs.Answers.{said, Fits, Compiles, Prints, Stands, Starts, Begins};
 
 // Done, with a length where one is asked for; or refused with a number and a line, 0 where the number has no line.
 pub enum Answer {
@@ -33,7 +33,7 @@ pub fn check(text: &[u8]) -> Verdict
     reader::read_text(text, &mut tables)
 }
 
-// The image of an accepted text, whose library the tables say.
+// Writes the image of an accepted text, whose library is in `tables`.
 fn write_image(text: &[u8], tables: &mut [u32], image: &mut [u8]) -> Answer
     requires { ⌜ length (now tables) ≡ 8072 ⌝ }
     ensures { λ r. ⌜ (read (now (text .entry)) ≡ accepted (libraryOf (now (text .entry)) (now (tables .entry)))
@@ -60,15 +60,36 @@ pub fn compile(text: &[u8], image: &mut [u8]) -> Answer
     }
 }
 
-// The statement with this count in tables that hold it; empty where there is none.
-fn part_at<'a>(text: &'a [u8], tables: &[u32], count: u32) -> &'a [u8]
-    ensures { λ r. ⌜ (read (now (text .entry)) ≡ accepted (libraryOf (now (text .entry)) (now (tables .entry)))
-        → now r ≡ statementPart (now (text .entry)) count) ⌝ }
+// Where a statement stands in the text, and its size in bytes; both 0 where there is none.
+pub struct Place {
+    pub at: usize,
+    pub size: usize,
+}
+
+// The place of the statement with this count in tables that hold it.
+fn place_at(tables: &[u32], count: u32) -> Place
+    ensures { λ r. ⌜ ((text : List ℕ) → read text ≡ accepted (libraryOf text (now (tables .entry))) → statementPlace text count ≡ (r .at, r .size)) ⌝ }
 {
     if count < words::statement_count(tables) {
-        words::part_of(text, words::get(tables, 3976 + count as usize))
+        let word = words::get(tables, 3976 + count as usize);
+        Place {
+            at: (word / 65536) as usize,
+            size: (word % 65536) as usize,
+        }
     } else {
-        &text[..0]
+        Place { at: 0, size: 0 }
+    }
+}
+
+// The place of the statement with this count in the text; 0 and 0 where the look-up is refused.
+pub fn statement_place(text: &[u8], count: u32) -> Place
+    ensures { λ r. ⌜ Stands (now (text .entry)) count r ⌝ }
+{
+    let mut tables = [0u32; 8072];
+    let verdict = reader::read_text(text, &mut tables);
+    match verdict {
+        Verdict::Refused(_, _) => Place { at: 0, size: 0 },
+        Verdict::Accepted => place_at(&tables, count),
     }
 }
 
@@ -76,12 +97,8 @@ fn part_at<'a>(text: &'a [u8], tables: &[u32], count: u32) -> &'a [u8]
 pub fn statement(text: &[u8], count: u32) -> &[u8]
     ensures { λ r. ⌜ now r ≡ statementPart (now (text .entry)) count ⌝ }
 {
-    let mut tables = [0u32; 8072];
-    let verdict = reader::read_text(text, &mut tables);
-    match verdict {
-        Verdict::Refused(_, _) => &text[..0],
-        Verdict::Accepted => part_at(text, &tables, count),
-    }
+    let place = statement_place(text, count);
+    words::part(text, place.at, place.size)
 }
 
 // The number that looking up a statement by its count gives: 23 from the number of statements on.
@@ -102,7 +119,7 @@ pub fn statement_fault(text: &[u8], count: u32) -> Answer
     }
 }
 
-// The starting values of an accepted text, whose library the tables say.
+// Writes the starting values of an accepted text, whose library is in `tables`.
 fn write_values(text: &[u8], tables: &[u32], values: &mut [u32]) -> Answer
     ensures { λ r. ⌜ (read (now (text .entry)) ≡ accepted (libraryOf (now (text .entry)) (now (tables .entry)))
         → Starts (now (text .entry)) (now (values .entry)) r (now (values .exit))) ⌝ }
@@ -126,29 +143,46 @@ pub fn starting_values(text: &[u8], values: &mut [u32]) -> Answer
     }
 }
 
-// The lines of an accepted text, whose library the tables say.
-fn write_lines(text: &[u8], tables: &mut [u32], out: &mut [u8]) -> usize
+// Writes the lines of an accepted text, whose library is in `tables`. They are printed into no bytes first, to learn their length.
+fn write_lines(text: &[u8], tables: &mut [u32], out: &mut [u8]) -> Answer
     requires { ⌜ length (now tables) ≡ 8072 ⌝ }
     ensures { λ r. ⌜ (read (now (text .entry)) ≡ accepted (libraryOf (now (text .entry)) (now (tables .entry)))
-        → Printed (printed (now (text .entry))) (now (out .entry)) r (now (out .exit))) ⌝ }
+        → Prints (now (text .entry)) (now (out .entry)) r (now (out .exit))) ⌝ }
 {
     vectors::fill::fill_vectors(text, tables);
-    image::write_tables(text, tables, out)
+    let length = image::write_tables(text, tables, &mut out[..0]);
+    if out.len() < length {
+        return Answer::Refused(21, 0);
+    }
+    image::write_tables(text, tables, out);
+    Answer::Done(length)
 }
 
-// Writes what `tables` prints for the text, as far as there is room, and answers its length.
-pub fn print_tables(text: &[u8], out: &mut [u8]) -> usize
-    ensures { λ r. ⌜ Printed (printed (now (text .entry))) (now (out .entry)) r (now (out .exit)) ⌝ }
+// Writes the line of a refused text.
+fn write_refusal(number: u32, line: u32, out: &mut [u8]) -> Answer
+    ensures { λ r. ⌜ Fits (refusalPrinted number line) (now (out .entry)) r (now (out .exit)) ⌝ }
+{
+    let count = image::write_refusal(number, line, &mut out[..0]);
+    if out.len() < count {
+        return Answer::Refused(21, 0);
+    }
+    image::write_refusal(number, line, out);
+    Answer::Done(count)
+}
+
+// Writes what `tables` prints for the text, and answers its length. 21 where the buffer is shorter.
+pub fn print_tables(text: &[u8], out: &mut [u8]) -> Answer
+    ensures { λ r. ⌜ Prints (now (text .entry)) (now (out .entry)) r (now (out .exit)) ⌝ }
 {
     let mut tables = [0u32; 8072];
     let verdict = reader::read_text(text, &mut tables);
     match verdict {
-        Verdict::Refused(number, line) => image::write_refusal(number, line as u32, out),
+        Verdict::Refused(number, line) => write_refusal(number, line as u32, out),
         Verdict::Accepted => write_lines(text, &mut tables, out),
     }
 }
 
-// Starts on an accepted text, whose library the tables say.
+// Starts on an accepted text, whose library is in `tables`.
 fn start_on(text: &[u8], tables: &mut [u32], values: &[u32], state: &mut [u32]) -> Answer
     requires { ⌜ length (now tables) ≡ 8072 ⌝ }
     ensures { λ r. ⌜ (read (now (text .entry)) ≡ accepted (libraryOf (now (text .entry)) (now (tables .entry)))

@@ -5,17 +5,20 @@ use syntax::token::Operator;
 use syntax::token::Token;
 use syntax::token::token_of;
 ghost use mathlib.Core.Path.{_≡_};
-ghost use Prim.Native.Nat.{_*_, _%_};
-ghost use lib.ListN.{drop};
+ghost use Prim.Native.Nat.{ℕ, _*_, _%_};
+ghost use lib.ListN.{length, drop};
 ghost use Rattle.model.specs.Base.{digit};
 ghost use Rattle.model.specs.Text.{words};
-ghost use Rattle.model.specs.Expression.{readLevels, operate, valueOf};
+ghost use Rattle.model.specs.Expression.{field, readLevels, operate};
 ghost use Rattle.lex.specs.Piece.{wordsAfter};
 ghost use Rattle.syntax.specs.Tokens.{saidOperator, saidLeaf};
-ghost use Rattle.state.specs.Turn.{fieldIn};
-ghost use Rattle.evaluate.specs.Valued.{valued, joined};
+ghost use Rattle.state.specs.Turn.{valueIn};
+ghost use Rattle.evaluate.specs.Valued.{valuedAt, valued, joined};
 
-// The value of an expression and the place behind it; Nothing where there is no expression.
+const FIELDS: u32 = 0;
+
+// The value of an expression and the place behind it; Nothing where there is no expression, or one that names a field that
+// the class has not.
 pub enum Value {
     Found(u32, usize),
     Nothing,
@@ -48,14 +51,20 @@ fn operate(operator: Operator, x: u32, y: u32) -> u32
     }
 }
 
-// The value of the field of that name among an object's own values; 0 where its class has no such field.
-fn field_value(text: &[u8], tables: &[u32], class: u32, own: &[u32], name: &[u8]) -> u32
-    ensures { λ r. ⌜ r ≡ fieldIn (now (text .entry)) (now (tables .entry)) class (now (own .entry)) (now (name .entry)) ⌝ }
+// The value of the field of that name among an object's own values, and the name's length; Nothing where its class has no
+// such field.
+fn field_value(text: &[u8], tables: &[u32], class: u32, own: &[u32], name: &[u8]) -> Value
+    ensures { λ r. ⌜ ((arg got : ℕ) → r ≡ valuedAt (valueIn (now (text .entry)) (now (tables .entry)) class (now (own .entry)) arg got (field (now (name .entry)))) (length (now (name .entry)))) ⌝ }
 {
-    words::get(own, words::find(text, tables, class, 0, name) as usize)
+    let place = words::find(text, tables, class, FIELDS, name);
+    if place < words::member_count(tables, class, FIELDS) {
+        Value::Found(words::get(own, place as usize), name.len())
+    } else {
+        Value::Nothing
+    }
 }
 
-// The value of an expression of one word.
+// The value of an expression of one word, and the word's length.
 fn leaf_value(
     text: &[u8],
     tables: &[u32],
@@ -65,14 +74,14 @@ fn leaf_value(
     got: u32,
     word: &[u8],
     leaf: Leaf,
-) -> u32
-    ensures { λ r. ⌜ r ≡ valueOf (fieldIn (now (text .entry)) (now (tables .entry)) class (now (own .entry))) arg got (saidLeaf (now (word .entry)) leaf) ⌝ }
+) -> Value
+    ensures { λ r. ⌜ r ≡ valuedAt (valueIn (now (text .entry)) (now (tables .entry)) class (now (own .entry)) arg got (saidLeaf (now (word .entry)) leaf)) (length (now (word .entry))) ⌝ }
 {
     match leaf {
-        Leaf::Literal(number) => number,
+        Leaf::Literal(number) => Value::Found(number, word.len()),
         Leaf::Field => field_value(text, tables, class, own, word),
-        Leaf::Argument => arg,
-        Leaf::Got => got,
+        Leaf::Argument => Value::Found(arg, word.len()),
+        Leaf::Got => Value::Found(got, word.len()),
     }
 }
 
@@ -97,7 +106,7 @@ pub fn value_of(
     rest: &[u8],
     levels: usize,
 ) -> Value
-    ensures { λ r. ⌜ r ≡ valued (fieldIn (now (text .entry)) (now (tables .entry)) class (now (own .entry))) arg got (now (rest .entry)) (readLevels levels (words (now (rest .entry)))) ⌝ }
+    ensures { λ r. ⌜ r ≡ valued (valueIn (now (text .entry)) (now (tables .entry)) class (now (own .entry)) arg got) (now (rest .entry)) (readLevels levels (words (now (rest .entry)))) ⌝ }
 {
     if levels == 0 {
         return Value::Nothing;
@@ -117,8 +126,7 @@ pub fn value_of(
             }
         }
         Token::Single(leaf) => {
-            let value = leaf_value(text, tables, class, own, arg, got, &rest[..end], leaf);
-            Value::Found(value, end)
+            leaf_value(text, tables, class, own, arg, got, &rest[..end], leaf)
         }
         Token::Neither => Value::Nothing,
     }
@@ -136,7 +144,7 @@ pub fn value_after(
     at: usize,
     levels: usize,
 ) -> Value
-    ensures { λ r. ⌜ r ≡ valued (fieldIn (now (text .entry)) (now (tables .entry)) class (now (own .entry))) arg got (now (line .entry)) (readLevels levels (wordsAfter (drop at (now (line .entry))))) ⌝ }
+    ensures { λ r. ⌜ r ≡ valued (valueIn (now (text .entry)) (now (tables .entry)) class (now (own .entry)) arg got) (now (line .entry)) (readLevels levels (wordsAfter (drop at (now (line .entry))))) ⌝ }
 {
     if at < line.len() {
         let from = at + 1;

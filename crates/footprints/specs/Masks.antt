@@ -11,12 +11,9 @@ use lib.Bits.{bitAnd, bitOr, and-step, or-step, or-zero-r, or-shifted-r}
 use Rattle.model.specs.Base.{upto, digit}
 use Rattle.model.specs.Image.{mask}
 use Rattle.words.specs.Upto.{length-upto, upto-more}
+use Rattle.words.specs.Bits.{digit-lt, mask-lt}
 
 -- ---- the lowest bit
-
-pub digit-lt : (b : Bool) → digit b < 2
-digit-lt true = omega arith
-digit-lt false = omega arith
 
 module _ (m : ℕ) (b : Bool) where
   pub cons-half : (m * 2 + digit b) / 2 ≡ m
@@ -52,10 +49,15 @@ not-cons : (n m : ℕ) (b : Bool) → m < 2 ^ n → (2 ^ suc n - 1) - (m * 2 + d
 not-cons n m true h = let e = pow-suc 2 n in let p = pow-pos n in omega arith
 not-cons n m false h = let e = pow-suc 2 n in let p = pow-pos n in omega arith
 
-pub mask-lt : (bs : List Bool) → mask bs < 2 ^ length bs
+-- The complement of a mask of n tests among n bits.
+pub mask-not : (n : ℕ) (bs : List Bool) → length bs ≡ n → (2 ^ n - 1) - mask bs ≡ mask (map not bs)
 unfolding mask
-mask-lt [] = omega arith
-mask-lt (b ∷ bs) = let e = pow-suc 2 (length bs) in let h = mask-lt bs in let d = digit-lt b in omega arith
+mask-not zero [] e = refl
+mask-not zero (b ∷ bs) e = absurd (omega arith)
+mask-not (suc n) [] e = absurd (omega arith)
+mask-not (suc n) (b ∷ bs) e =
+    let k : length bs ≡ n = omega arith in
+    not-cons n (mask bs) b (rw k at (mask-lt bs)) ∙ ap (λ (m : ℕ). m * 2 + digit (not b)) (mask-not n bs k)
 
 -- ---- tests of the same list
 

@@ -1,15 +1,12 @@
--- The decimal digits of a number as a recursion writes them, and what digits say as a loop reads them.
-use Prim.Native.Nat.{ℕ, zero, suc, _+_, _-_, _*_, _/_, _%_, _≤_, _<_}
+-- The decimal digits of a number as a recursion writes them.
+use Prim.Native.Nat.{ℕ, zero, suc, _+_, _-_, _/_, _%_, _≤_, _<_}
 use mathlib.Core.Path.{_≡_, refl, ap}
 use mathlib.Core.Bool.{Bool, true, false, cond}
-use mathlib.Core.List.{List, [], _∷_, _++_}
+use mathlib.Core.List.{[], _∷_, _++_}
 use native.Mathlib.Omega.{arith}
-use native.Mathlib.Numerals.{add-one}
-use lib.ListN.{length, drop, getD, length-append, drop-of-length-le}
-use lib.Seq.{drop-cons}
+use lib.ListN.{length, length-append}
 use lib.Dec.{ltb}
 use borrow.Author.Tests.{lt-ltb, le-ltb}
-use Rattle.model.specs.Word.{decimal}
 use Rattle.model.specs.Tables.{digits}
 
 pub digits-none : (n k : ℕ) → n ≡ 0 → [] ≡ digits n k
@@ -36,19 +33,3 @@ digits-le (suc n) k = go (ltb k 10) (digits-le n (k / 10))
     go : (t : Bool) → length (digits n (k / 10)) ≤ n → length (cond t ((48 + k) ∷ []) (digits n (k / 10) ++ ((48 + k % 10) ∷ []))) ≤ suc n
     go true h = omega arith
     go false h = omega (arith, length-append (digits n (k / 10)) ((48 + k % 10) ∷ []))
-
--- ---- what digits say
-
-module _ (n : ℕ) (w : List ℕ) (i : ℕ) where
-  pub decimal-end : length w ≤ i → decimal n (drop i w) ≡ n
-  unfolding decimal
-  decimal-end h = rw (drop-of-length-le w h)
-
-  pub decimal-more : i < length w → decimal n (drop i w) ≡ decimal (10 * n + getD w i 0 - 48) (drop (i + 1) w)
-  unfolding decimal
-  decimal-more h = rw (add-one, drop-cons w i 0 h)
-
-pub decimal-large : (n : ℕ) (w : List ℕ) → 4294967295 < n → 4294967295 < decimal n w
-unfolding decimal
-decimal-large n [] h = h
-decimal-large n (b ∷ w) h = decimal-large (10 * n + b - 48) w (omega arith)

@@ -1,43 +1,19 @@
 -- The letters of a vector and the flags of a method, by their masks: bit k of a mask is the k-th of its tests.
-use Prim.Native.Nat.{ℕ, zero, suc, _+_, _*_, _/_, _%_, _^_, _<_}
+use Prim.Native.Nat.{ℕ}
 use mathlib.Core.Path.{_≡_, refl, sym, ap, _∙_}
-use mathlib.Core.Bool.{Bool, true, false, cond}
+use mathlib.Core.Bool.{false, cond}
 use mathlib.Core.List.{List, [], _∷_, map}
-use native.Mathlib.Omega.{arith}
 use lib.ListN.{length, getD, List·getD-map}
-use lib.Pow.{shr-shr}
-use lib.Dec.{eqb}
-use Rattle.model.specs.Base.{digit}
 use Rattle.model.specs.Mode.{Mode, Null, Read, Write, changes}
 use Rattle.model.specs.Vector.{Vector, commute}
-use Rattle.model.specs.Image.{mask, onlyRead, readMask, writeMask, commuteMask}
+use Rattle.model.specs.Image.{onlyRead, readMask, writeMask, commuteMask}
 use Rattle.model.specs.Tables.{letter, letters, yesOrNo}
 use Rattle.theory.specs.ListLaws.{map-at}
 use Rattle.words.specs.View.{bit}
 use Rattle.words.specs.Upto.{upto-same}
-use Rattle.words.specs.Bits.{bit-zero}
+use Rattle.words.specs.Bits.{bit-mask}
 use Rattle.image.specs.Written.{numbers, letterFrom, lettersFrom}
 use Rattle.image.specs.Each.{map-numbers, map-listed}
-
-digit-lt : (b : Bool) → digit b < 2
-digit-lt true = omega arith
-digit-lt false = omega arith
-
-digit-is : (b : Bool) → eqb (digit b) 1 ≡ b
-digit-is true = refl
-digit-is false = refl
-
-mask-bit : (bs : List Bool) (k : ℕ) → bit (mask bs) k ≡ getD bs k false
-unfolding mask bit
-mask-bit [] k = bit-zero k
-mask-bit (b ∷ bs) zero =
-    let e : (mask bs * 2 + digit b) / 1 % 2 ≡ digit b = omega (arith, digit-lt b) in
-    ap (λ (n : ℕ). eqb n 1) e ∙ digit-is b
-mask-bit (b ∷ bs) (suc k) =
-    let m = mask bs * 2 + digit b in
-    let half : m / 2 ≡ mask bs = omega (arith, digit-lt b) in
-    let next : suc k ≡ 1 + k = omega arith in
-    ap (λ (n : ℕ). eqb (n % 2) 1) (ap (λ (n : ℕ). m / 2 ^ n) next ∙ sym (shr-shr m 1 k) ∙ ap (λ (n : ℕ). n / 2 ^ k) half) ∙ mask-bit bs k
 
 -- ---- letters
 
@@ -49,8 +25,8 @@ letter-is Write = refl
 letter-at : (v : Vector) (k : ℕ) → letterFrom (readMask v) (writeMask v) k ≡ letter (getD v k Null)
 unfolding letterFrom
 letter-at v k =
-    let w = mask-bit (map changes v) k ∙ List·getD-map changes v k Null in
-    let r = mask-bit (map onlyRead v) k ∙ List·getD-map onlyRead v k Null in
+    let w = bit-mask (map changes v) k ∙ List·getD-map changes v k Null in
+    let r = bit-mask (map onlyRead v) k ∙ List·getD-map onlyRead v k Null in
     (λ i. cond (w i) 87 (cond (r i) 82 78)) ∙ letter-is (getD v k Null)
 
 pub letters-are : (v : Vector) → lettersFrom (readMask v) (writeMask v) (length v) ≡ letters v
@@ -68,5 +44,5 @@ pub flags-are : (vs : List Vector) (v : Vector)
 flags-are vs v =
     map-numbers (λ i. yesOrNo (bit (commuteMask vs v) i)) (length vs)
     ∙ upto-same (λ i. yesOrNo (commute v (getD vs i []))) (λ i. yesOrNo (bit (commuteMask vs v) i)) (length vs)
-    (λ i h. ap yesOrNo (mask-bit (map (commute v) vs) i ∙ map-at (commute v) vs i [] false h))
+    (λ i h. ap yesOrNo (bit-mask (map (commute v) vs) i ∙ map-at (commute v) vs i [] false h))
     ∙ sym (map-listed [] (λ w. yesOrNo (commute v w)) vs)

@@ -8,9 +8,9 @@ use lib.ListN.{length, replicate, length-append, length-take, length-replicate}
 use lib.Dec.{ltb}
 use Rattle.model.specs.Image.{u32Bytes}
 use Rattle.lex.specs.Piece.{wordsAfter}
-use Rattle.words.specs.View.{partOf, classWord, objectWord, statementWord, classCount, statementCount, objectCount, memberCount}
+use Rattle.words.specs.View.{partOf, valueOf, classWord, objectWord, statementWord, classCount, statementCount, objectCount, memberCount}
 use Rattle.words.specs.Look.{shownCount}
-use Rattle.image.specs.Written.{numbers, placeBytes, placesFrom, eachMethod, masksFrom, commuteFrom, imageFrom, valueOf, valuesFrom, startingFrom, tablesFrom}
+use Rattle.image.specs.Written.{numbers, placeBytes, placesFrom, eachMethod, masksFrom, commuteFrom, imageFrom, valuesFrom, startingFrom, tablesFrom}
 use Rattle.image.specs.Each.{total, total-le, total-same, total-times, total-all, length-each, each-le}
 use Rattle.image.specs.declared.method.Part.the-variants.{Line}
 use Rattle.image.specs.Cells.{members-le, classes-le}

@@ -1,7 +1,8 @@
 -- The values of an object by counting, and what a loop over its line's words knows.
 use Prim.Native.Nat.{ℕ, zero, suc, _+_, _-_, _≤_, _<_}
 use mathlib.Core.Path.{_≡_, refl, sym, ap, _∙_}
-use mathlib.Core.Bool.{Bool, true, false}
+use mathlib.Core.Bool.{Bool, true, false, cond}
+use mathlib.Core.Option.{Option, none as nothing, some}
 use mathlib.Core.List.{List, [], _∷_, _++_, map}
 use native.Mathlib.Numerals.{add-one}
 use native.Mathlib.Omega.{arith}
@@ -10,11 +11,26 @@ use lib.Seq.{getD-take, getD-append-add, ext-getD}
 use lib.Dec.{ltb}
 use borrow.Author.Tests.{ltb-true, ltb-false}
 use Rattle.model.specs.Base.{upto}
+use Rattle.model.specs.Word.{isNumber, decimal}
+use Rattle.lex.specs.Number.{numberOf}
 use Rattle.lex.specs.Piece.{wordsAfter, first, others, endAfter, others-after}
-use Rattle.words.specs.View.{partOf, objectWord}
+use Rattle.words.specs.View.{partOf, valueOf, objectWord}
 use Rattle.words.specs.Upto.{length-upto, getD-upto}
 use Rattle.words.specs.Look.{shownCount}
-use Rattle.image.specs.Written.{valueOf, valuesFrom}
+use Rattle.image.specs.Written.{valuesFrom}
+
+-- The value of a word, by the number that `lex` says of it.
+abbrev pub orZero : Option ℕ → ℕ
+orZero nothing = 0
+orZero (some n) = n
+
+pub value-said : (w : List ℕ) → orZero (numberOf w) ≡ valueOf w
+unfolding numberOf valueOf
+value-said w = go (isNumber w)
+  where
+    go : (t : Bool) → orZero (cond t (some (decimal 0 w)) nothing) ≡ cond t (decimal 0 w) 0
+    go true = refl
+    go false = refl
 
 module _ (f : List ℕ → ℕ) (none : f [] ≡ 0) (ps : List (List ℕ)) (n : ℕ) where
   element : (i : ℕ) → i < n → getD (map f ps ++ replicate n 0) i 0 ≡ f (getD ps i [])

@@ -4,13 +4,11 @@ use Prim.Native.Nat.{ℕ, zero, suc, _+_, _/_, _%_}
 use mathlib.Core.Bool.{cond}
 use mathlib.Core.List.{List, _++_, map, flatMap}
 use lib.ListN.{take, replicate}
-use lib.Dec.{leb}
 use Rattle.model.specs.Base.{bytes, upto}
-use Rattle.model.specs.Word.{decimal}
 use Rattle.model.specs.Image.{u32Bytes, withPairs}
 use Rattle.model.specs.Tables.{yesOrNo}
 use Rattle.lex.specs.Piece.{wordsAfter}
-use Rattle.words.specs.View.{nameOf, partOf, classWord, statementWord, objectWord, classCount, statementCount, objectCount, memberCount, bit}
+use Rattle.words.specs.View.{nameOf, partOf, valueOf, classWord, statementWord, objectWord, classCount, statementCount, objectCount, memberCount, bit}
 use Rattle.words.specs.Look.{shownCount}
 
 abbrev pub numbers : ℕ → List ℕ
@@ -44,11 +42,6 @@ unfolding placesFrom masksFrom commuteFrom
 imageFrom ws = withPairs (placesFrom ws) (masksFrom ws) (commuteFrom ws)
 
 -- ---- starting values
-
--- What a word's digits say; 0 where that is no u32.
-unfoldable pub valueOf : List ℕ → ℕ
-unfolding decimal
-valueOf w = let n = decimal 0 w in cond (leb n 4294967295) n 0
 
 -- Object o's values, absent ones 0: as many as its class has fields, and an unknown class has none.
 unfoldable pub valuesFrom : List ℕ → List ℕ → ℕ → List ℕ

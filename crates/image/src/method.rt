@@ -6,7 +6,6 @@ use super::append::put_u32;
 ghost use Prim.Native.Nat.{_+_, _≤_, _<_, _^_};
 ghost use mathlib.Core.Path.{_≡_};
 ghost use Rattle.model.specs.Base.{upto};
-ghost use Rattle.words.specs.View.{bit};
 ghost use Rattle.image.specs.Written.{eachMethod, lettersFrom, lineFrom};
 ghost use Rattle.image.specs.Append.{Appended};
 ghost use Rattle.image.specs.Cells.{cellFrom, methodsFrom, nameFrom, vectorFrom, flagsFrom, markOf};
@@ -18,23 +17,18 @@ pub enum Part {
     Line,
 }
 
-// The mask has the bit at a place.
-fn bit(mask: u32, place: u32) -> bool
-    requires { ⌜ place < 32 ⌝ }
-    ensures { λ r. ⌜ r ≡ bit mask place ⌝ }
-{
-    (mask >> place) % 2 == 1
-}
-
 // The first byte where the first mask has the bit, else the second where the second has it, else the third.
 fn mark(place: u32, first: u32, second: u32, high: u8, middle: u8, low: u8) -> u8
-    requires { ⌜ place < 32 ⌝ }
     ensures { λ r. ⌜ r ≡ markOf first second high middle low place ⌝ }
 {
-    if bit(first, place) {
+    if words::has_bit(first, place) {
         return high;
     }
-    if bit(second, place) { middle } else { low }
+    if words::has_bit(second, place) {
+        middle
+    } else {
+        low
+    }
 }
 
 // Such a byte for each place below a count.

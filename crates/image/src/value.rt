@@ -1,32 +1,19 @@
 // The starting values of an object, out of the words of its line.
-ghost use Prim.Native.Nat.{_+_, _-_, _*_, _≤_, _<_, _^_};
+ghost use Prim.Native.Nat.{_+_, _<_, _^_};
 ghost use mathlib.Core.Path.{_≡_};
-ghost use Rattle.image.specs.Written.{valueOf, valuesFrom};
+ghost use Rattle.words.specs.View.{valueOf};
+ghost use Rattle.image.specs.Written.{valuesFrom};
 ghost use Rattle.image.specs.Append.{Appended};
 
-// A number with a digit behind it.
-fn joined(number: u64, byte: u8) -> u64
-    requires { ⌜ number ≤ 4294967295 ⌝ }
-    ensures { λ r. ⌜ r ≡ 10 * number + byte - 48 ⌝ }
-{
-    let sum = 10 * number + byte as u64;
-    if sum < 48 { 0 } else { sum - 48 }
-}
-
-// What a word's digits say; 0 where that is no u32.
+// The number that a word says; 0 where it says none.
 fn value_of(word: &[u8]) -> u32
     ensures { λ r. ⌜ r ≡ valueOf (now (word .entry)) ⌝ }
 {
-    let mut number: u64 = 0;
-    let mut i = 0;
-    while i < word.len() {
-        number = joined(number, word[i]);
-        if 4294967295 < number {
-            return 0;
-        }
-        i += 1;
+    let number = lex::number_of(word);
+    match number {
+        lex::Number::Value(value) => value,
+        lex::Number::NoNumber => 0,
     }
-    number as u32
 }
 
 // The values of an object, absent ones 0.

@@ -1,5 +1,5 @@
 -- The test of a row's locks in the code's order: does it hold a lock on the class, does the send lock the class, do the
--- methods commute.
+-- methods commute; and the test of a domain, some class of which may lack the method.
 use Prim.Native.Nat.{ℕ, _+_, _-_, _≤_, _<_}
 use mathlib.Core.Path.{_≡_, refl, sym, ap, _∙_}
 use mathlib.Core.Bool.{Bool, true, false, not, cond, _&&_}
@@ -7,13 +7,13 @@ use mathlib.Core.List.{List}
 use native.Mathlib.Omega.{arith}
 use lib.ListN.{getD}
 use lib.Bits.{bitAnd, bitOr, and-zero-l}
-use lib.Dec.{eqb, ltb}
+use lib.Dec.{eqb, leb, ltb}
 use borrow.Author.Tests.{ltb-true, lt-ltb, le-ltb, eq-eqb, ne-eqb}
 use Rattle.model.specs.Base.{any, upto}
 use Rattle.model.specs.Word.{Name}
 use Rattle.model.specs.Library.{memberPlace}
 use Rattle.words.specs.View.{nameOf, classWord, classCount, memberCount, membersOf}
-use Rattle.state.specs.Request.{Wanted, meets, placeIn, commutingIn, inDomain, concerns, classMeets, rowMeets}
+use Rattle.state.specs.Request.{Wanted, meets, placeIn, commutingIn, inDomain, concerns, lacks, lacking, classMeets, rowMeets}
 
 -- The place of the method in a class that the send locks; 32, which is no place, in any other.
 unfoldable pub domainPlace : List ℕ → List ℕ → Wanted → ℕ → ℕ
@@ -72,6 +72,10 @@ module _ (text tables : List ℕ) (q : Wanted) (d : ℕ) where
   unfolding domainPlace concerns
   outside e = rw e
 
+  pub lacks-outside : inDomain tables q d ≡ false → false ≡ lacks text tables q d
+  unfolding lacks
+  lacks-outside e = rw e
+
   -- A look-up of the name finds the place k among n methods.
   module _ (name : Name) (s : name ≡ nameOf text (q .name)) (k n : ℕ) (e : k ≡ memberPlace (membersOf text tables d 1) name)
       (m : n ≡ memberCount tables d 1) (i : inDomain tables q d ≡ true) where
@@ -86,6 +90,10 @@ module _ (text tables : List ℕ) (q : Wanted) (d : ℕ) where
     pub place-none : n ≤ k → 32 ≡ domainPlace text tables q d
     unfolding domainPlace concerns
     place-none h = rw (i, found, ← m, le-ltb k n h)
+
+    pub lacks-method : leb n k ≡ lacks text tables q d
+    unfolding lacks
+    lacks-method = rw (i, found, ← m)
 
   -- The send locks the class exactly if the place is one.
   module _ (k : ℕ) (e : k ≡ domainPlace text tables q d) where
@@ -122,6 +130,17 @@ module _ (text tables : List ℕ) (q : Wanted) (d : ℕ) where
       pub clash-inside : k < 32 → (methods : ℕ) → methods ≡ conflictsOf tables d k → holdsOne row (120 + d) d methods ≡ classClashes text tables q row d
       unfolding classClashes classMeets commutingIn holdsOne conflictsOf meets
       clash-inside h methods m = let l = place-locks k e h in rw (m, l .0, l .1)
+
+-- ---- the domain
+
+module _ (text tables : List ℕ) (q : Wanted) where
+  pub lacking-other : (q .kind ≡ 2 → ⊥) → false ≡ lacking text tables q
+  unfolding lacking
+  lacking-other h = rw (ne-eqb (q .kind) 2 h)
+
+  pub lacking-domain : q .kind ≡ 2 → any (lacks text tables q) (upto (λ d. d) (classCount tables)) ≡ lacking text tables q
+  unfolding lacking
+  lacking-domain h = rw (eq-eqb (q .kind) 2 h)
 
 -- ---- the row, by the target's kind
 

@@ -1,12 +1,13 @@
 // A send's locks: which rows hold a lock that is in its way, which bits it sets, and where its message starts. The rules are
 // in crates/state/specs/Request.antt.
+use words::body::Body;
 ghost use mathlib.Core.Path.{_≡_};
 ghost use Rattle.state.specs.Row.{withBits};
-ghost use Rattle.state.specs.Request.{inDomain};
+ghost use Rattle.state.specs.Request.{inDomain, lacks, lacking, firstOf, namedRow, pastRow, entered};
 ghost use Rattle.locks.specs.Asked.{asked};
 ghost use Rattle.locks.specs.Clashing.{domainPlace, heldAt, holdsOne, conflictsOf, classClashes, domainClashes};
 ghost use Rattle.locks.specs.Locking.{placeBit, domainBit, lockedTarget};
-ghost use Rattle.locks.specs.Begun.{saidFirst, firstOf, namedRow, pastRow, entered};
+ghost use Rattle.locks.specs.Begun.{saidFirst};
 
 const METHODS: u32 = 1;
 
@@ -20,11 +21,12 @@ pub struct Wanted {
     pub argument: u32,
 }
 
-// Where a message starts: on an object, with its method's first statement there and the one past its last; or past the
-// last object.
+// Where a message starts: on an object, with its method's first statement there and the one past its last; past the last
+// object; or nowhere, where its first object has no such method.
 pub enum First {
     On(u32, u32, u32),
     Past(u32),
+    Nowhere,
 }
 
 // The methods that the row holds at a word, or on the class with its objects.
@@ -52,7 +54,7 @@ pub fn conflicts(tables: &[u32], class: u32, place: u32) -> u32
 fn in_domain(tables: &[u32], wanted: Wanted, class: u32) -> bool
     ensures { λ r. ⌜ r ≡ inDomain (now (tables .entry)) (asked wanted) class ⌝ }
 {
-    turns::visit::has_bit(words::class_word(tables, wanted.number, 5), class)
+    words::has_bit(words::class_word(tables, wanted.number, 5), class)
 }
 
 // The place of the method in a class that a send to a domain locks; 32 where it does not lock the class.
@@ -101,6 +103,36 @@ pub fn domain_clashes(text: &[u8], tables: &[u32], wanted: Wanted, row: &[u32]) 
     false
 }
 
+// The class is in the send's domain and has no such method.
+fn lacks_method(text: &[u8], tables: &[u32], wanted: Wanted, class: u32) -> bool
+    ensures { λ r. ⌜ r ≡ lacks (now (text .entry)) (now (tables .entry)) (asked wanted) class ⌝ }
+{
+    if !in_domain(tables, wanted, class) {
+        return false;
+    }
+    let name = words::name_of(text, wanted.name);
+    let place = words::find(text, tables, class, METHODS, name);
+    words::member_count(tables, class, METHODS) <= place
+}
+
+// The send is to a domain, some class of which has no such method.
+pub fn domain_lacks(text: &[u8], tables: &[u32], wanted: Wanted) -> bool
+    ensures { λ r. ⌜ r ≡ lacking (now (text .entry)) (now (tables .entry)) (asked wanted) ⌝ }
+{
+    if wanted.kind != 2 {
+        return false;
+    }
+    let count = words::class_count(tables);
+    let mut class = 0u32;
+    while class < count {
+        if lacks_method(text, tables, wanted, class) {
+            return true;
+        }
+        class += 1;
+    }
+    false
+}
+
 // The mask of the method at a place; none past the 32 of a mask.
 pub fn place_bit(place: u32) -> u32
     ensures { λ r. ⌜ r ≡ placeBit place ⌝ }
@@ -116,7 +148,7 @@ pub fn domain_bit(text: &[u8], tables: &[u32], wanted: Wanted, class: u32) -> u3
     place_bit(place)
 }
 
-// Lock bits added to a word of the row, which is marked as one that has locks.
+// Adds lock bits to a word of the row, which is marked as one that has locks.
 pub fn add_lock(row: &mut [u32], word: usize, bits: u32)
     ensures { λ _. ⌜ now (row .exit) ≡ withBits (now (row .entry)) word bits ⌝ }
 {
@@ -126,7 +158,7 @@ pub fn add_lock(row: &mut [u32], word: usize, bits: u32)
     words::put(row, word, held | bits);
 }
 
-// The locks of a send to an object, which its class holds too, or to a class's own objects.
+// Takes the locks of a send to an object, which its class holds too, or to a class's own objects.
 pub fn lock_target(row: &mut [u32], wanted: Wanted)
     ensures { λ _. ⌜ now (row .exit) ≡ lockedTarget (asked wanted) (now (row .entry)) ⌝ }
 {
@@ -148,11 +180,14 @@ pub fn first_object(text: &[u8], tables: &[u32], wanted: Wanted) -> First
         return First::Past(object);
     }
     let class = words::object_word(tables, object, 1);
-    let body = turns::body::body_at(text, tables, class, wanted.place, wanted.name);
-    First::On(object, body.first, body.end)
+    let body = words::body::body_at(text, tables, class, wanted.place, wanted.name);
+    match body {
+        Body::Found(first, end) => First::On(object, first, end),
+        Body::Missing => First::Nowhere,
+    }
 }
 
-// The row runs a message with the send's target, name and argument.
+// Writes the send's target, name and argument into the row, which then runs a message.
 fn name_message(row: &mut [u32], wanted: Wanted)
     ensures { λ _. ⌜ now (row .exit) ≡ namedRow (asked wanted) (now (row .entry)) ⌝ }
 {
@@ -163,7 +198,7 @@ fn name_message(row: &mut [u32], wanted: Wanted)
     words::put(row, 8, wanted.argument);
 }
 
-// The message is past the last object.
+// Puts the message past the last object.
 fn enter_past(row: &mut [u32], object: u32)
     ensures { λ _. ⌜ now (row .exit) ≡ pastRow object (now (row .entry)) ⌝ }
 {
@@ -173,13 +208,19 @@ fn enter_past(row: &mut [u32], object: u32)
     words::put(row, 3, 0);
 }
 
-// The row with the message at its start.
+// Puts the message at its start; nothing where that is nowhere.
 pub fn enter(row: &mut [u32], wanted: Wanted, first: First)
     ensures { λ _. ⌜ now (row .exit) ≡ entered (asked wanted) (saidFirst first) (now (row .entry)) ⌝ }
 {
-    name_message(row, wanted);
     match first {
-        First::On(object, start, end) => rows::enter_object(row, object, start, end, 0),
-        First::Past(object) => enter_past(row, object),
+        First::On(object, start, end) => {
+            name_message(row, wanted);
+            rows::enter_object(row, object, start, end, 0);
+        }
+        First::Past(object) => {
+            name_message(row, wanted);
+            enter_past(row, object);
+        }
+        First::Nowhere => {}
     }
 }

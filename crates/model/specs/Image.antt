@@ -7,6 +7,7 @@ use lib.Dec.{eqb, ltb}
 use Rattle.model.specs.Base.{digit}
 use Rattle.model.specs.Library.{Library, Placed, Object, classAt}
 use Rattle.model.specs.Read.{Reading, accepted, refused, read}
+use Rattle.model.specs.Told.{Told, done, refusal, orFault, fitted, into}
 use Rattle.model.specs.Mode.{Mode, depends, changes}
 use Rattle.model.specs.Vector.{Vector, Program, program, commute}
 
@@ -67,38 +68,39 @@ unfoldable pub image : List ℕ → List ℕ
 unfolding read imageOf program
 image text = imageIn (read text)
 
--- A number of the builder's where the text has no fault, with no line.
-abbrev pub orBuilder : Reading → (Library → ℕ) → ℕ × ℕ
-orBuilder (accepted l) number = (number l, 0)
-orBuilder (refused fault line) number = (fault, line)
-
--- "21 image buffer shorter than the image": the fault of compiling into a buffer of `size` bytes.
-unfoldable pub compileRefusal : List ℕ → ℕ → ℕ × ℕ
+-- "21 image buffer shorter than the image": the answer of compiling into a buffer of `size` bytes.
+unfoldable pub compileAnswer : List ℕ → ℕ → Told
 unfolding read image
-compileRefusal text size = orBuilder (read text) (λ l. cond (ltb size (length (image text))) 21 0)
+compileAnswer text size = orFault (read text) (λ l. fitted (image text) size)
 
--- What the buffer holds after compiling: the image and, past it, what it held; on a refusal what it held.
+-- What the buffer holds after compiling.
 unfoldable pub compiledInto : List ℕ → List ℕ → List ℕ
-unfolding image
-compiledInto text buffer = cond (ltb (length buffer) (length (image text))) buffer (image text ++ drop (length (image text)) buffer)
+unfolding image into
+compiledInto text buffer = into (image text) buffer
 
 -- "23 statement count too high"
-unfoldable pub statementRefusal : List ℕ → ℕ → ℕ × ℕ
+unfoldable pub statementAnswer : List ℕ → ℕ → Told
 unfolding read
-statementRefusal text count = orBuilder (read text) (λ l. cond (ltb count (length (l .statements))) 0 23)
+statementAnswer text count = orFault (read text) (λ l. cond (ltb count (length (l .statements))) (done 0) (refusal 23 0))
 
-abbrev pub partOf : List ℕ → List Placed → List ℕ
-partOf text [] = []
-partOf text (s ∷ ss) = take (s .size) (drop (s .at) text)
+-- The place and the size of a statement; 0 and 0 where there is none.
+abbrev pub placeAndSize : List Placed → ℕ × ℕ
+placeAndSize [] = (0, 0)
+placeAndSize (s ∷ ss) = (s .at, s .size)
 
-abbrev pub statementIn : Reading → List ℕ → ℕ → List ℕ
-statementIn (accepted l) text count = partOf text (drop count (l .statements))
-statementIn (refused fault line) text count = []
+abbrev pub placeIn : Reading → ℕ → ℕ × ℕ
+placeIn (accepted l) count = placeAndSize (drop count (l .statements))
+placeIn (refused fault line) count = (0, 0)
+
+-- Where the statement with this count stands in the text, and its size; 0 and 0 where the look-up is refused.
+unfoldable pub statementPlace : List ℕ → ℕ → ℕ × ℕ
+unfolding read
+statementPlace text count = placeIn (read text) count
 
 -- "the statement is handed back as that part of the caller's text. A refusal hands back an empty part"
 unfoldable pub statementPart : List ℕ → ℕ → List ℕ
-unfolding read
-statementPart text count = statementIn (read text) text count
+unfolding statementPlace
+statementPart text count = let s = statementPlace text count in take (s .1) (drop (s .0) text)
 
 -- "optional starting values in field order; absent ones are 0"
 abbrev pub valuesOf : Library → Object → List ℕ
@@ -110,9 +112,12 @@ unfolding flatMap
 startingValues l = flatMap (valuesOf l) (l .objects)
 
 -- "22 values of another count than the fields", for a list of `count` values.
-unfoldable pub valuesRefusal : List ℕ → ℕ → ℕ × ℕ
+abbrev pub counted : Library → ℕ → Told
+counted l count = cond (eqb count (length (startingValues l))) (done 0) (refusal 22 0)
+
+unfoldable pub valuesAnswer : List ℕ → ℕ → Told
 unfolding read startingValues
-valuesRefusal text count = orBuilder (read text) (λ l. cond (eqb count (length (startingValues l))) 0 22)
+valuesAnswer text count = orFault (read text) (λ l. counted l count)
 
 abbrev pub writtenIn : Reading → List ℕ → List ℕ
 writtenIn (accepted l) values = cond (eqb (length values) (length (startingValues l))) (startingValues l) values

@@ -6,6 +6,7 @@ pub mod Form
 pub mod Library
 pub mod Fault
 pub mod Read
+pub mod Told
 pub mod Mode
 pub mod Graph
 pub mod Vector

@@ -7,7 +7,8 @@ use lib.ListN.{length, getD}
 use lib.Dec.{eqb, ltb}
 use Rattle.model.specs.Library.{methodNames}
 use Rattle.model.specs.Read.{Reading, accepted, refused, read}
-use Rattle.model.specs.Image.{startingValues, valuesRefusal}
+use Rattle.model.specs.Told.{Told, refusal, orFault}
+use Rattle.model.specs.Image.{startingValues, counted}
 use Rattle.model.specs.Vector.{Program, program}
 pub use Rattle.model.specs.Message.{Target, object, class, domain}
 use Rattle.model.specs.Message.{Message, classOf, visited, Effect, act, Run, begun, turn}
@@ -68,9 +69,14 @@ service p =
 abbrev pub call : (p : Program) → World (service p) → Call → Answer × World (service p)
 call p w c = Calls.call (service p) w c
 
--- The fault of a start on a text and values: the text's, or 22.
-abbrev pub startRefusal : List ℕ → List ℕ → ℕ × ℕ
-startRefusal text values = valuesRefusal text (length values)
+-- "one length, the same for every text, named in docs/", in words.
+abbrev pub stateWords : ℕ
+stateWords = 26184
+
+-- The answer of a start on a text, as many values and a state of `size` words: the text's fault, 21, 22.
+unfoldable pub startAnswer : List ℕ → ℕ → ℕ → Told
+unfolding read startingValues
+startAnswer text count size = orFault (read text) (λ l. cond (ltb size stateWords) (refusal 21 0) (counted l count))
 
 -- The answers of a list of calls made after a start on these values, and the fields after it.
 unfoldable pub playedBy : Program → List ℕ → List Call → List Answer × List ℕ

@@ -69,6 +69,24 @@ pub data Answer : Type 0 where
   held : ℕ → Answer
   stopped : Answer
 
+-- The number of an answer: 01's; of those without one 0 for done, 1 for going, 2 for the message's answer.
+abbrev pub callNumber : Answer → ℕ
+callNumber done = 0
+callNumber going = 1
+callNumber (answer v) = 2
+callNumber (refuse n) = n
+callNumber (held s) = 40
+callNumber stopped = 41
+
+-- What goes with it: the message's answer, or the lowest clashing slot; 0 where there is neither.
+abbrev pub callDetail : Answer → ℕ
+callDetail done = 0
+callDetail going = 0
+callDetail (answer v) = v
+callDetail (refuse n) = 0
+callDetail (held s) = s
+callDetail stopped = 0
+
 -- An answer in a slot's list at its commit, beside the one that its run gives.
 pub record Compared : Type 0 where
   pub got : ℕ

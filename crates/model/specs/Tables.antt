@@ -8,6 +8,7 @@ use Rattle.model.specs.Base.{bytes, upto}
 use Rattle.model.specs.Word.{Name}
 use Rattle.model.specs.Library.{classAt, methodNames}
 use Rattle.model.specs.Read.{Reading, accepted, refused, read}
+use Rattle.model.specs.Told.{Told, fitted, into}
 use Rattle.model.specs.Mode.{Mode, Null, Read, Write}
 use Rattle.model.specs.Vector.{Vector, Program, program, commute}
 
@@ -62,3 +63,13 @@ printedFor (refused fault line) = refusalPrinted fault line
 unfoldable pub printed : List ℕ → List ℕ
 unfolding read program programPrinted refusalPrinted
 printed text = printedFor (read text)
+
+-- The answer of printing into a buffer of `size` bytes: 21 where it is shorter than what is printed, a `refused` line included.
+unfoldable pub printAnswer : List ℕ → ℕ → Told
+unfolding printed
+printAnswer text size = fitted (printed text) size
+
+-- What the buffer holds after printing.
+unfoldable pub printedInto : List ℕ → List ℕ → List ℕ
+unfolding printed into
+printedInto text buffer = into (printed text) buffer

@@ -48,7 +48,7 @@ fn clear(tables: &mut [u32])
 }
 
 // The second pass: the first line that deserves a number from 13 to 17.
-pub fn judge(text: &[u8], tables: &mut [u32]) -> Verdict
+fn judge(text: &[u8], tables: &mut [u32]) -> Verdict
     requires { ⌜ length (now text) ≤ 32768 ⌝ }
     requires { ⌜ length (now tables) ≡ 8072 ⌝ }
     ensures { λ r. ⌜ Tells r (libraryOf (now (text .entry)) (now (tables .exit))) (judged nothing 1 (linesFrom 0 (linesAndRest (now (text .entry))))) ⌝ }

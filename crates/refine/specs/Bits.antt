@@ -1,21 +1,17 @@
--- Bits of masks: of an intersection, a complement, a mask without one bit, a list of tests; and when a mask meets another.
-use Prim.Native.Nat.{ℕ, zero, suc, _+_, _-_, _*_, _/_, _%_, _^_, min, _≤_, _<_}
+-- Bits of masks: of an intersection, a complement, a mask without one bit; and when a mask meets another.
+use Prim.Native.Nat.{ℕ, zero, suc, _-_, _*_, _/_, _%_, _^_, min, _≤_, _<_}
 use mathlib.Core.Path.{_≡_, refl, sym, ap, _∙_}
 use mathlib.Core.Logic.{_≢_}
 use mathlib.Core.Bool.{Bool, true, false, not, _&&_, _||_, or-true, true≢false}
-use mathlib.Core.List.{List, [], _∷_}
 use native.Mathlib.Nat.{pow-suc}
 use native.Mathlib.Omega.{arith}
-use lib.ListN.{length, getD}
 use lib.Dec.{eqb}
-use lib.Pow.{pow-pos, shr-shr, shl-exact}
+use lib.Pow.{pow-pos, shl-exact}
 use lib.Bits.{bitAnd, bitOr, and-step, and-shr, and-le-r}
 use lib.Count.{under, trailingZeros}
 use borrow.Author.Tests.{eqb-true, eqb-false, eq-eqb, ne-eqb, not-true}
-use Rattle.model.specs.Base.{digit}
-use Rattle.model.specs.Image.{mask}
 use Rattle.words.specs.View.{bit}
-use Rattle.words.specs.Bits.{bit-zero, bit-or, bit-shifted}
+use Rattle.words.specs.Bits.{lowest-bit, higher-bit, bit-zero, bit-or, bit-shifted}
 use Rattle.state.specs.Request.{meets}
 use Rattle.theory.specs.ListLaws.{both-left, both-right}
 
@@ -35,17 +31,6 @@ pub both-true : (a b : Bool) → a ≡ true → b ≡ true → a && b ≡ true
 both-true a b e f = ap (λ (x : Bool). x && b) e ∙ f
 
 -- ---- one bit
-
-lowest-bit : (a : ℕ) → bit a 0 ≡ eqb (a % 2) 1
-unfolding bit
-lowest-bit a = let e : a / 1 % 2 ≡ a % 2 = omega arith in ap (λ (n : ℕ). eqb n 1) e
-
-higher-bit : (a k : ℕ) → bit a (suc k) ≡ bit (a / 2) k
-unfolding bit
-higher-bit a k =
-    let e : 1 + k ≡ suc k = omega arith in
-    let q : a / 2 / 2 ^ k ≡ a / 2 ^ suc k = shr-shr a 1 k ∙ ap (λ (j : ℕ). a / 2 ^ j) e in
-    ap (λ (n : ℕ). eqb (n % 2) 1) (sym q)
 
 and-digits : (x y : ℕ) → x < 2 → y < 2 → eqb (min x y) 1 ≡ (eqb x 1 && eqb y 1)
 and-digits zero zero h k = refl
@@ -154,33 +139,6 @@ less-else (suc t) a (suc b) e ne =
     let q : (a - 2 ^ suc t) / 2 ≡ a / 2 - 2 ^ t = omega arith in
     higher-bit (a - 2 ^ suc t) b ∙ ap (λ (m : ℕ). bit m b) q
     ∙ less-else t (a / 2) b (sym (higher-bit a t) ∙ e) (λ z. ne (ap suc z)) ∙ sym (higher-bit a b)
-
--- ---- a list of tests as a mask
-
-digit-lt : (b : Bool) → digit b < 2
-digit-lt true = omega arith
-digit-lt false = omega arith
-
-digit-is : (b : Bool) → eqb (digit b) 1 ≡ b
-digit-is true = refl
-digit-is false = refl
-
--- A mask of n tests has n bits.
-pub mask-lt : (bs : List Bool) → mask bs < 2 ^ length bs
-unfolding mask
-mask-lt [] = omega arith
-mask-lt (b ∷ bs) = let e = pow-suc 2 (length bs) in let h = mask-lt bs in let d = digit-lt b in omega arith
-
--- Bit k is test k.
-pub bit-mask : (bs : List Bool) (k : ℕ) → bit (mask bs) k ≡ getD bs k false
-unfolding mask
-bit-mask [] k = bit-zero k
-bit-mask (b ∷ bs) zero =
-    let e : (mask bs * 2 + digit b) % 2 ≡ digit b = omega (arith, digit-lt b) in
-    lowest-bit (mask bs * 2 + digit b) ∙ ap (λ (n : ℕ). eqb n 1) e ∙ digit-is b
-bit-mask (b ∷ bs) (suc k) =
-    let e : (mask bs * 2 + digit b) / 2 ≡ mask bs = omega (arith, digit-lt b) in
-    higher-bit (mask bs * 2 + digit b) k ∙ ap (λ (n : ℕ). bit n k) e ∙ bit-mask bs k
 
 -- ---- masks that meet
 

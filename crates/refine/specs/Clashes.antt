@@ -16,10 +16,11 @@ use Rattle.model.specs.Library.{Member, classAt, memberPlace, methodNames}
 use Rattle.model.specs.Vector.{Program, Vector, commute, vectorOf, commuteIn}
 use Rattle.model.specs.Lock.{Lock, onObject, onClass}
 use Rattle.words.specs.View.{bit, classWord, classCount, memberCount}
+use Rattle.words.specs.Bits.{mask-lt, bit-mask}
 use Rattle.theory.specs.ListLaws.{both-left, both-right, same-sound, any-member, member-any, map-at}
 use Rattle.state.specs.Request.{meets}
 use Rattle.refine.specs.Rep.{Fits, lockWord, lockClass, lockMethod, lockBit, onKnown, Holdable, heldIn, samePlace, sameLock, Holds}
-use Rattle.refine.specs.Bits.{same-test, both-true, not-of, bit-mask, mask-lt, meet-at, at-meet}
+use Rattle.refine.specs.Bits.{same-test, both-true, not-of, meet-at, at-meet}
 use Rattle.refine.specs.Tables.{method-total}
 use Rattle.refine.specs.Locks.{lock-refl, place-word, place-class, place-known, few-members}
 

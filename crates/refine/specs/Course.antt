@@ -1,29 +1,25 @@
 -- Demand 3 over the words: a list of calls after a fresh start that leaves no slot open ends with the values, and gave the
 -- answers, of the plain course; and from then on the words behave as those of any fresh start on these values.
 use Prim.Native.Nat.{ℕ, _<_}
-use native.Mathlib.Omega.{arith}
 use mathlib.Core.Path.{_≡_, refl, sym, ap, ap₂, subst, _∙_}
-use mathlib.Core.Option.{Option, none, some}
-use mathlib.Core.List.{List, [], _∷_, map}
-use lib.ListN.{getD}
+use mathlib.Core.List.{List, [], _∷_}
 use Rattle.model.specs.Vector.{Program}
-use Rattle.model.specs.Message.{Run}
-use Rattle.model.specs.Service.{Answer, Slot, closed, opened, World, fresh, runCalls, Course, startCourse, fedAll}
-use Rattle.model.specs.Service as Told
+use Rattle.model.specs.Service.{Answer, World, fresh, runCalls, Course, startCourse, fedAll}
 use Rattle.model.specs.Machine.{service, Call, call}
 use Rattle.twophase.specs.Base.{All}
 use Rattle.twophase.specs.Claims.{Right}
 use Rattle.theory.specs.VectorLaws.{Compiled}
 use Rattle.theory.specs.CommitOrder.{left, SameAsPlainCourse, commit-order-by}
-use Rattle.state.specs.Calls.{Answered, done, goes, halt, answer, number, held, tablesOf, rowOf, called}
-use Rattle.refine.specs.Rep.{NowRep, SlotRep, Rep, Fresh, told}
+use Rattle.state.specs.Calls.{rowOf, phaseOf, called}
+use Rattle.refine.specs.Rep.{Rep, Fresh}
+use Rattle.refine.specs.State.{phase-closed}
 use Rattle.refine.specs.Refines.{refines, fresh-rep}
 
 -- ---- a list of calls
 
 -- What a list of calls answers and leaves.
 pub record AfterAll : Type 0 where
-  pub answers : List Answered
+  pub answers : List Answer
   pub words : List ℕ
   pub values : List ℕ
 
@@ -38,7 +34,7 @@ calledAll text ws values (c ∷ cs) =
 -- They follow the model's list of calls.
 pub all-refine : (text ws values : List ℕ) (p : Program) (w : World (service p)) → Rep text ws values p w → (cs : List Call)
     → let x = calledAll text ws values cs in
-    (map told (x .answers) ≡ runCalls (service p) w cs .0) × Rep text (x .words) (x .values) p (runCalls (service p) w cs .1)
+    (x .answers ≡ runCalls (service p) w cs .0) × Rep text (x .words) (x .values) p (runCalls (service p) w cs .1)
 unfolding calledAll runCalls
 all-refine text ws values p w rep [] = (refl, rep)
 all-refine text ws values p w rep (c ∷ cs) =
@@ -47,47 +43,11 @@ all-refine text ws values p w rep (c ∷ cs) =
     let more = all-refine text (x .words) (x .values) p (call p w c .1) (one .1) cs in
     (ap₂ (λ (a : Answer) (l : List Answer). a ∷ l) (one .0) (more .0), more .1)
 
--- ---- answers
-
-untold : Answer → Answered
-untold Told.done = done
-untold Told.going = goes
-untold (Told.answer v) = answer v
-untold (Told.refuse n) = number n
-untold (Told.held s) = held s
-untold Told.stopped = halt
-
-told-back : (a : Answered) → untold (told a) ≡ a
-unfolding untold
-told-back done = refl
-told-back goes = refl
-told-back halt = refl
-told-back (answer v) = refl
-told-back (number n) = refl
-told-back (held s) = refl
-
-all-back : (l : List Answered) → map untold (map told l) ≡ l
-all-back [] = refl
-all-back (a ∷ l) = ap₂ (λ (x : Answered) (xs : List Answered). x ∷ xs) (told-back a) (all-back l)
-
--- Answers that the model has alike are alike.
-told-same : (l m : List Answered) → map told l ≡ map told m → l ≡ m
-told-same l m e = sym (all-back l) ∙ ap (map untold) e ∙ all-back m
-
 -- ---- demand 3
 
--- A slot whose row has phase 0 is closed.
-phase-closed : (text tables : List ℕ) (p : Program) (row : List ℕ) (z : Slot (service p)) → SlotRep text tables p row z → getD row 0 0 ≡ 0 → z ≡ closed
-phase-closed text tables p row closed r e = refl
-phase-closed text tables p row (opened t) r e = absurd (go (t .running) (r .now))
-  where
-    go : (x : Option Run) → NowRep text tables p row x → ⊥
-    go none n = omega arith
-    go (some y) n = let two = n .0 in omega arith
-
 -- The plain course, fed the calls with the answers that they got.
-abbrev pub courseOf : (p : Program) → List ℕ → List Call → List Answered → Course (service p)
-courseOf p values cs answers = fedAll (service p) (startCourse (service p) values) cs (map told answers)
+abbrev pub courseOf : (p : Program) → List ℕ → List Call → List Answer → Course (service p)
+courseOf p values cs answers = fedAll (service p) (startCourse (service p) values) cs answers
 
 -- What demand 3 says of what a list of calls answered and left, after a fresh start on `values`.
 pub record InOrder (text : List ℕ) (p : Program) (values : List ℕ) (cs : List Call) (x : AfterAll) : Type 0 where
@@ -103,7 +63,7 @@ pub record InOrder (text : List ℕ) (p : Program) (values : List ℕ) (cs : Lis
 
 -- Demand 3: "This is a single claim about the whole list, not one for each call."
 pub in-order : (text ws values : List ℕ) (p : Program) → Compiled p → Fresh text ws values p → (cs : List Call)
-    → ((t : ℕ) → t < 8 → getD (rowOf (calledAll text ws values cs .words) t) 0 0 ≡ 0) → InOrder text p values cs (calledAll text ws values cs)
+    → ((t : ℕ) → t < 8 → phaseOf (rowOf (calledAll text ws values cs .words) t) ≡ 0) → InOrder text p values cs (calledAll text ws values cs)
 in-order text ws values p compiled start cs shut =
     record {
       same-fields = sym (rep .fields) ∙ plain .same-fields
@@ -119,14 +79,14 @@ in-order text ws values p compiled start cs shut =
     w : World (service p)
     w = left p values cs
 
-    all : (map told (x .answers) ≡ runCalls (service p) (fresh (service p) values) cs .0) × Rep text (x .words) (x .values) p w
+    all : (x .answers ≡ runCalls (service p) (fresh (service p) values) cs .0) × Rep text (x .words) (x .values) p w
     all = all-refine text ws values p (fresh (service p) values) (fresh-rep text ws values p start) cs
 
     rep : Rep text (x .words) (x .values) p w
     rep = all .1
 
     plain : SameAsPlainCourse p values cs
-    plain = commit-order-by p values cs compiled (λ t h. phase-closed text (tablesOf (x .words)) p (rowOf (x .words) t) (w .slots t) (rep .slots t h) (shut t h))
+    plain = commit-order-by p values cs compiled (λ t h. phase-closed text (x .words) (x .values) p w rep t h (shut t h))
 
     after : (fresh-words : List ℕ) → Fresh text fresh-words (x .values) p → (more : List Call)
         → let old = calledAll text (x .words) (x .values) more in
@@ -137,7 +97,6 @@ in-order text ws values p compiled start cs shut =
         let b = all-refine text fresh-words (x .values) p (fresh (service p) (x .values)) (fresh-rep text fresh-words (x .values) p f) more in
         let same : runCalls (service p) w more ≡ runCalls (service p) (fresh (service p) (x .values)) more =
         plain .as-new more ∙ ap (λ (fs : List ℕ). runCalls (service p) (fresh (service p) fs) more) (sym (plain .same-fields) ∙ rep .fields) in (
-          told-same (calledAll text (x .words) (x .values) more .answers) (calledAll text fresh-words (x .values) more .answers)
-              (a .0 ∙ ap (λ y. y .0) same ∙ sym (b .0)),
+          a .0 ∙ ap (λ y. y .0) same ∙ sym (b .0),
           sym (a .1 .fields) ∙ ap (λ y. y .1 .fields) same ∙ b .1 .fields,
         )

@@ -1,8 +1,8 @@
 -- One small text with its words: they are a fresh start, so what is proved of such words holds of these with nothing assumed.
-use Prim.Native.Nat.{ℕ, zero, suc, _+_, _≤_, _<_}
+use Prim.Native.Nat.{ℕ, zero, suc, _+_, _/_, _%_, _≤_, _<_}
 use native.Mathlib.Omega.{arith}
-use mathlib.Core.Path.{_≡_, refl, sym, ap, _∙_, fun-ext}
-use mathlib.Core.Bool.{Bool, false, _&&_}
+use mathlib.Core.Path.{_≡_, refl, sym, ap, subst, _∙_, fun-ext}
+use mathlib.Core.Bool.{Bool, true, false, _&&_, false≢true}
 use mathlib.Core.Option.{none}
 use mathlib.Core.List.{List, [], _∷_, _++_}
 use lib.ListN.{length, getD, replicate}
@@ -12,18 +12,20 @@ use Rattle.model.specs.Base.{bytes, any, same}
 use Rattle.model.specs.Expression.{field, argument, apply, plus}
 use Rattle.model.specs.Text.{words, pieces}
 use Rattle.model.specs.Form.{assign, statementLine, formOf}
-use Rattle.model.specs.Library.{Library, noMember, classAt, member, memberPlace, byFirstParent, methodNames}
+use Rattle.model.specs.Library.{Library, noMember, classAt, member, memberPlace, among, byFirstParent, statementsOf, methodNames}
+use Rattle.model.specs.Fault.{strange}
 use Rattle.model.specs.Read.{library}
 use Rattle.model.specs.Vector.{Program, program, commute}
 use Rattle.model.specs.Image.{mask, commuteMask}
 use Rattle.model.specs.Message.{baseOf, inDomain}
 use Rattle.model.specs.Machine.{Call}
 use Rattle.theory.specs.Copies.{Copied}
+use Rattle.theory.specs.Named.{NamedBody, Names}
 use Rattle.words.specs.View.{partOf, classWord, objectWord, statementWord, classCount, memberCount, bit, libraryOf}
 use Rattle.words.specs.Bits.{bit-zero}
 use Rattle.theory.specs.VectorLaws.{program-compiled}
 use Rattle.state.specs.Row.{blank}
-use Rattle.state.specs.Calls.{rowOf, misfitOf, mark}
+use Rattle.state.specs.Calls.{rowOf, phaseOf, misfitOf, mark}
 use Rattle.refine.specs.Rep.{statementAt, Distinct, Fits, Fresh}
 use Rattle.refine.specs.Bits.{bit-one}
 use Rattle.refine.specs.Course.{calledAll, InOrder, in-order}
@@ -67,8 +69,31 @@ text-library : library text ≡ withAncestors (λ d. false)
 unfolding library
 text-library = refl
 
+-- The names of its one body are known, and its class has no ancestors.
+plain-names : Names (withAncestors (λ d. false))
+unfolding statementsOf strange among any same
+plain-names =
+    record {
+      bodies = body;
+      fields = λ c d up. absurd (none-above c d up);
+      methods = λ c d up. absurd (none-above c d up);
+      ancestors = λ c d e up. absurd (none-above c d up);
+    }
+  where
+    l : Library
+    l = withAncestors (λ d. false)
+
+    body : (c j : ℕ) → j < length (classAt l c .methods) → NamedBody l (classAt l c) (statementsOf l (getD (classAt l c .methods) j noMember))
+    body zero zero h = (refl, tt)
+    body zero (suc j) h = absurd (omega arith)
+    body (suc c) j h = absurd (omega arith)
+
+    none-above : (c d : ℕ) → classAt l c .ancestors d ≡ true → ⊥
+    none-above zero d up = false≢true up
+    none-above (suc c) d up = false≢true up
+
 fits : Fits text tables p
-unfolding program library memberCount classWord objectWord bit mask commute member memberPlace byFirstParent baseOf partOf statementWord formOf pieces any same
+unfolding program library memberCount classWord objectWord bit mask commute member memberPlace byFirstParent baseOf partOf statementWord formOf pieces among any same
 fits =
     record {
       library = words-library ∙ ap withAncestors (fun-ext bit-zero) ∙ sym text-library;
@@ -85,8 +110,10 @@ fits =
       bodies = λ c j h. only (λ k. (i : ℕ) → i < memberCount tables k 1 → let b = getD (classAt (p .library) k .methods) i noMember in b .first + b .count ≤ 1)
           (only (λ i. let b = getD (classAt (p .library) 0 .methods) i noMember in b .first + b .count ≤ 1) (omega arith)) c h j;
       copies = λ c j h. only (λ k. (i : ℕ) → i < memberCount tables k 1 → Copied (p .library) (getD (classAt (p .library) k .methods) i noMember))
-          (only (λ i. Copied (p .library) (getD (classAt (p .library) 0 .methods) i noMember)) refl) c h j;
+          (only (λ i. Copied (p .library) (getD (classAt (p .library) 0 .methods) i noMember)) (refl, refl)) c h j;
       lines = only (λ s. formOf (words (partOf text (statementWord tables s))) ≡ statementLine (statementAt (p .library) s)) refl;
+      places = only (λ s. let w = statementWord tables s in w / 65536 + w % 65536 ≤ length text) (omega arith);
+      names = subst Names (sym text-library) plain-names;
     }
   where
     first : (d : ℕ) → eqb 0 d ≡ (ltb d 1 && inDomain p 0 d)
@@ -114,6 +141,6 @@ example-fresh v = record { fit = refl; fits = fits; rows = row }
     row (suc (suc (suc (suc (suc (suc (suc (suc t)))))))) h = absurd (omega arith)
 
 -- Demand 3 for these words, whatever the calls.
-pub example-in-order : (v : ℕ) (cs : List Call) → ((t : ℕ) → t < 8 → getD (rowOf (calledAll text start (v ∷ []) cs .words) t) 0 0 ≡ 0)
+pub example-in-order : (v : ℕ) (cs : List Call) → ((t : ℕ) → t < 8 → phaseOf (rowOf (calledAll text start (v ∷ []) cs .words) t) ≡ 0)
     → InOrder text p (v ∷ []) cs (calledAll text start (v ∷ []) cs)
 example-in-order v cs shut = in-order text start (v ∷ []) p (program-compiled (library text)) (example-fresh v) cs shut

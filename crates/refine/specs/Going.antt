@@ -12,19 +12,21 @@ use Rattle.model.specs.Vector.{Program}
 use Rattle.model.specs.Message.{Message, Effect, idle, Activation, Run, Outcome, goes, ends, stops, opened, withRest, withGot, replied}
 use Rattle.model.specs.Message as Model
 use Rattle.model.specs.Undo.{noted, putBack}
+use Rattle.model.specs.Service.{going, answer, stopped}
 use Rattle.words.specs.View.{statementCount}
 use Rattle.twophase.specs.Base.{at-or}
-use Rattle.state.specs.Row.{going, halted, answered, Left, act, withAct, newAct, top, stepped, passed, noteAt, skipRow, callRow, replyRow, backRow, freed, goingTo}
+use Rattle.state.specs.Row.{Left, act, withAct, newAct, top, stepped, passed, noteAt, skipRow, callRow, replyRow, backRow, freed, goingTo}
+use Rattle.state.specs.Turn.{targetThere}
 use Rattle.refine.specs.Rep.{targetBy, messageOf, between, activationOf, stackOf, objectsFrom, runOf, Running, Shallow, Clean}
 use Rattle.refine.specs.Runs.{Alike, between-none, activation-is, activation-same, stack-same, message-same, note-same, run-is}
-use Rattle.refine.specs.Stores.{else-word, new-word, act-length, act-other, act-opened, act-end}
+use Rattle.refine.specs.Stores.{else-word, new-word, act-length, act-other, act-opened, act-start, act-end}
 use Rattle.refine.specs.Freeing.{clean-kept}
 
 -- ---- what a step leaves, against the model's outcome
 
 -- The message goes on as the run r, with the effect e.
 pub record Goes (text tables : List ℕ) (p : Program) (row values : List ℕ) (x : Left) (r : Run) (e : Effect) : Type 0 where
-  pub said : x .said ≡ going
+  pub answered : x .answered ≡ going
   pub fields : x .values ≡ Model.act e values
   pub size : length (x .row) ≡ 2264
   pub phase : getD (x .row) 0 0 ≡ getD row 0 0
@@ -36,14 +38,14 @@ pub record Goes (text tables : List ℕ) (p : Program) (row values : List ℕ) (
 
 -- The message ends with its answer; all else is kept.
 pub record Ends (row values : List ℕ) (x : Left) (v : ℕ) (e : Effect) : Type 0 where
-  pub said : x .said ≡ answered v
+  pub answered : x .answered ≡ answer v
   pub fields : x .values ≡ values
   pub left : x .row ≡ set row 0 1
   pub effect : e ≡ idle
 
 -- The transaction is undone and its slot freed.
 pub record Halts (row values : List ℕ) (x : Left) : Type 0 where
-  pub said : x .said ≡ halted
+  pub answered : x .answered ≡ stopped
   pub fields : x .values ≡ putBack (noteAt row) values
   pub left : x .row ≡ freed row
 
@@ -59,6 +61,10 @@ onwardRun r below = record { message = r .message; objects = r .objects; activat
 
 -- ---- a turn on the same object
 
+-- Activation j is within the text's statements.
+abbrev pub Inside : List ℕ → List ℕ → ℕ → Type 0
+Inside tables row j = (act row j 0 ≤ act row j 1) × (act row j 1 ≤ statementCount tables)
+
 -- What a row is after it: all else is kept, and the d activations are these.
 record Onward (tables : List ℕ) (p : Program) (row row′ : List ℕ) (d : ℕ) (stack : List Activation) : Type 0 where
   long : length row′ ≡ 2264
@@ -70,7 +76,7 @@ record Onward (tables : List ℕ) (p : Program) (row row′ : List ℕ) (d : ℕ
   few : d ≤ 8
   steps : getD row′ 2 0 ≡ suc (getD row 2 0)
   activations : stackOf (p .library) row′ d ≡ stack
-  inside : (j : ℕ) → j < d → act row′ j 1 ≤ statementCount tables
+  inside : (j : ℕ) → j < d → Inside tables row′ j
   calls : (getD row 11 0 ≡ 0 → Shallow row) → getD row′ 11 0 ≡ 0 → Shallow row′
 
 module _ (text tables : List ℕ) (p : Program) (row values : List ℕ) (size : length row ≡ 2264) (runs : Running tables p row) where
@@ -80,7 +86,7 @@ module _ (text tables : List ℕ) (p : Program) (row values : List ℕ) (size : 
   onward-goes given row′ d stack is o =
       subst (λ (z : List ℕ). Goes text tables p row values (goingTo z values) (onwardRun (runOf text p row) stack) idle) (sym is)
       (record {
-        said = refl;
+        answered = refl;
         fields = refl;
         size = o .long;
         phase = o .phase;
@@ -90,10 +96,12 @@ module _ (text tables : List ℕ) (p : Program) (row values : List ℕ) (size : 
             (o .head 3 (omega arith) (omega arith)));
         runs = record {
           depth = omega (arith, o);
+          within = omega (arith, w4, runs .within);
           active = λ h. omega (arith, o);
           visiting = λ h. ap₂ (Model.inTarget p) (ap₂ targetBy w5 w6) w4 ∙ runs .visiting (omega (arith, w4));
-          ends = λ j h. o .inside j (omega (arith, o));
-          domain = λ h. omega (arith, w6, runs .domain (omega (arith, w5)));
+          starts = λ j h. o .inside j (omega (arith, o)) .0;
+          ends = λ j h. o .inside j (omega (arith, o)) .1;
+          target = ap₂ (targetThere tables) w5 w6 ∙ runs .target;
         };
         notes = note-same row row′ (λ i g h. o .tail i (omega arith) (omega arith));
         clean = clean-kept row row′ (λ i g h. o .head i (omega arith) h) (o .tail) (o .calls);
@@ -114,6 +122,10 @@ module _ (text tables : List ℕ) (p : Program) (row values : List ℕ) (size : 
 
   abbrev l : Library
   l = p .library
+
+  -- An activation whose place is kept stays within.
+  inside-kept : (row′ : List ℕ) (j : ℕ) → j < getD row 1 0 → act row′ j 0 ≡ act row j 0 → act row′ j 1 ≡ act row j 1 → Inside tables row′ j
+  inside-kept row′ j h a b = omega (arith, runs .starts j h, runs .ends j h)
 
   module _ (k : ℕ) (deep : getD row 1 0 ≡ suc k) (early : getD row 2 0 < 1024) where
     abbrev steps : ℕ
@@ -152,18 +164,20 @@ module _ (text tables : List ℕ) (p : Program) (row values : List ℕ) (size : 
     skip-is h = ap stepped (pass-is h) ∙ step-is (set row (at 0) (suc next)) (else-word row (at 0) (suc next) 2 (omega arith))
 
     -- The activation goes on behind the statement.
-    pub skip-goes : next < 4096
+    pub skip-goes : next < act row k 1
         → Goes text tables p row values (goingTo (skipRow row) values)
         (onwardRun (runOf text p row) (withRest (activationOf l row k) (between l (suc next) (act row k 1)) ∷ below)) idle
     unfolding stackOf activationOf act
     skip-goes h =
+        let last = runs .ends k (omega arith) in
         let one = set row (at 0) (suc next) in
         let row′ = set one 2 (suc steps) in
         let long₁ = length-set row (at 0) (suc next) in
         let long₂ = length-set one 2 (suc steps) in
         let keep : (i : ℕ) → (i ≢ 2) × (i ≢ at 0) → getD row′ i 0 ≡ getD row i 0 =
         λ i n. else-word one 2 (suc steps) i (n .0) ∙ else-word row (at 0) (suc next) i (n .1) in
-        onward-goes (skipRow row) row′ (suc k) (withRest (activationOf l row k) (between l (suc next) (act row k 1)) ∷ below) (skip-is h) (record {
+        let on = else-word one 2 (suc steps) (at 0) (omega arith) ∙ new-word row (at 0) (suc next) (omega (arith, few)) in
+        onward-goes (skipRow row) row′ (suc k) (withRest (activationOf l row k) (between l (suc next) (act row k 1)) ∷ below) (skip-is (omega arith)) (record {
           long = omega arith;
           phase = keep 0 (omega arith);
           head = λ i g h. keep i (omega arith);
@@ -173,11 +187,11 @@ module _ (text tables : List ℕ) (p : Program) (row values : List ℕ) (size : 
           few = few;
           steps = new-word one 2 (suc steps) (omega arith);
           activations = ap₂ (λ (x : Activation) (xs : List Activation). x ∷ xs)
-              (activation-is l row′ k (suc next) (act row k 1) (act row k 2) (act row k 3) (act row k 4)
-              (else-word one 2 (suc steps) (at 0) (omega arith) ∙ new-word row (at 0) (suc next) (omega (arith, few)))
+              (activation-is l row′ k (suc next) (act row k 1) (act row k 2) (act row k 3) (act row k 4) on
               (keep (at 1) (omega arith)) (keep (at 2) (omega arith)) (keep (at 3) (omega arith)) (keep (at 4) (omega arith)))
               (stack-same l row row′ k (λ i g h. keep i (omega arith)));
-          inside = λ j h. omega (arith, keep (16 + j * 5 + 1) (omega arith), runs .ends j (omega arith));
+          inside = at-or (λ (j : ℕ). j < suc k → Inside tables row′ j) k (λ z. omega (arith, on, keep (at 1) (omega arith), last))
+              (λ j ne z. inside-kept row′ j (omega arith) (keep (16 + j * 5 + 0) (omega arith, λ g. ne (omega arith))) (keep (16 + j * 5 + 1) (omega arith)));
           calls = λ shallow z.
               let s = shallow (sym (keep 11 (omega arith)) ∙ z) in
               (omega (arith, keep 1 (omega arith), s .0), λ i g h. keep i (omega (arith, s .0, deep)) ∙ s .1 i g h);
@@ -206,6 +220,8 @@ module _ (text tables : List ℕ) (p : Program) (row values : List ℕ) (size : 
         let long₃ = length-set two 2 (suc steps) in
         let keep : (i : ℕ) → (i ≢ 2) × (i ≢ at 4) × (i ≢ at 0) → getD row′ i 0 ≡ getD row i 0 =
         λ i n. else-word two 2 (suc steps) i (n .0) ∙ else-word one (at 4) v i (n .1) ∙ else-word row (at 0) end i (n .2) in
+        let over =
+        else-word two 2 (suc steps) (at 0) (omega arith) ∙ else-word one (at 4) v (at 0) (omega arith) ∙ new-word row (at 0) end (omega (arith, few)) in
         onward-goes (replyRow v row) row′ (suc k) (replied (activationOf l row k) v ∷ below) (reply-is v) (record {
           long = omega arith;
           phase = keep 0 (omega arith);
@@ -216,13 +232,14 @@ module _ (text tables : List ℕ) (p : Program) (row values : List ℕ) (size : 
           few = few;
           steps = new-word two 2 (suc steps) (omega arith);
           activations = ap₂ (λ (x : Activation) (xs : List Activation). x ∷ xs)
-              (activation-is l row′ k end end (act row k 2) (act row k 3) v
-              (else-word two 2 (suc steps) (at 0) (omega arith) ∙ else-word one (at 4) v (at 0) (omega arith) ∙ new-word row (at 0) end (omega (arith, few)))
+              (activation-is l row′ k end end (act row k 2) (act row k 3) v over
               (keep (at 1) (omega arith)) (keep (at 2) (omega arith)) (keep (at 3) (omega arith))
               (else-word two 2 (suc steps) (at 4) (omega arith) ∙ new-word one (at 4) v (omega (arith, few)))
               ∙ ap (λ (ss : List Statement). record { rest = ss; arg = act row k 2; got = act row k 3; reply = v }) (between-none l end end (omega arith)))
               (stack-same l row row′ k (λ i g h. keep i (omega arith)));
-          inside = λ j h. omega (arith, keep (16 + j * 5 + 1) (omega arith), runs .ends j (omega arith));
+          inside = at-or (λ (j : ℕ). j < suc k → Inside tables row′ j) k (λ z. omega (arith, over, keep (at 1) (omega arith), runs .ends k (omega arith)))
+              (λ j ne z. inside-kept row′ j (omega arith) (keep (16 + j * 5 + 0) (omega arith, omega arith, λ g. ne (omega arith)))
+              (keep (16 + j * 5 + 1) (omega arith)));
           calls = λ shallow z.
               let s = shallow (sym (keep 11 (omega arith)) ∙ z) in
               (omega (arith, keep 1 (omega arith), s .0), λ i g h. keep i (omega (arith, s .0, deep)) ∙ s .1 i g h);
@@ -230,7 +247,7 @@ module _ (text tables : List ℕ) (p : Program) (row values : List ℕ) (size : 
 
     -- ---- a self-call
 
-    module _ (first end argument : ℕ) (h : next < 4096) where
+    module _ (first end argument : ℕ) (h : next < act row k 1) where
       abbrev passedOn : List ℕ
       passedOn = set row (at 0) (suc next)
 
@@ -247,17 +264,18 @@ module _ (text tables : List ℕ) (p : Program) (row values : List ℕ) (size : 
       unfolding callRow
       call-is =
           let more : (suc k + 1) % 4294967296 ≡ suc (suc k) = omega (arith, few) in
-          ap₂ (λ (z : List ℕ) (d : ℕ). stepped (set (set (newAct z d first end argument) 11 1) 1 ((d + 1) % 4294967296))) (pass-is h) deep
+          let low : next < 4096 = omega (arith, runs .ends k (omega arith)) in
+          ap₂ (λ (z : List ℕ) (d : ℕ). stepped (set (set (newAct z d first end argument) 11 1) 1 ((d + 1) % 4294967296))) (pass-is low) deep
           ∙ ap (λ (d : ℕ). stepped (set calling 1 d)) more
           ∙ step-is deeper (else-word calling 1 (suc (suc k)) 2 (omega arith) ∙ else-word withCallee 11 1 2 (omega arith)
           ∙ act-other passedOn (suc k) first end argument 2 (omega arith) ∙ else-word row (at 0) (suc next) 2 (omega arith))
 
       -- The callee's activation is opened, and the caller goes on behind the call.
-      pub call-goes : end ≤ statementCount tables → suc k < 8
+      pub call-goes : first ≤ end → end ≤ statementCount tables → suc k < 8
           → Goes text tables p row values (goingTo (callRow first end argument row) values)
           (onwardRun (runOf text p row) (opened (between l first end) argument ∷ withRest (activationOf l row k) (between l (suc next) (act row k 1)) ∷ below)) idle
       unfolding stackOf activationOf act
-      call-goes short room =
+      call-goes fits short room =
           let row′ = set deeper 2 (suc steps) in
           let long₁ = length-set row (at 0) (suc next) in
           let long₂ = act-length passedOn (suc k) first end argument in
@@ -270,7 +288,10 @@ module _ (text tables : List ℕ) (p : Program) (row values : List ℕ) (size : 
           λ i n. behind i (n .0, n .1, n .2) ∙ act-other passedOn (suc k) first end argument i (n .4) ∙ else-word row (at 0) (suc next) i (n .3) in
           let flag : getD row′ 11 0 ≡ 1 =
           else-word deeper 2 (suc steps) 11 (omega arith) ∙ else-word calling 1 (suc (suc k)) 11 (omega arith) ∙ new-word withCallee 11 1 (omega arith) in
+          let start = behind (16 + suc k * 5 + 0) (omega arith) ∙ act-start passedOn (suc k) first end argument l (omega arith) in
           let last = behind (16 + suc k * 5 + 1) (omega arith) ∙ act-end passedOn (suc k) first end argument l (omega arith) in
+          let on =
+          behind (at 0) (omega arith) ∙ act-other passedOn (suc k) first end argument (at 0) (omega arith) ∙ new-word row (at 0) (suc next) (omega arith) in
           onward-goes (callRow first end argument row) row′ (suc (suc k))
           (opened (between l first end) argument ∷ withRest (activationOf l row k) (between l (suc next) (act row k 1)) ∷ below) call-is (record {
             long = omega arith;
@@ -285,11 +306,14 @@ module _ (text tables : List ℕ) (p : Program) (row values : List ℕ) (size : 
                 (activation-same l withCallee row′ (suc k) (λ i g h. behind i (omega arith)) ∙ act-opened passedOn (suc k) first end argument l (omega arith))
                 (ap₂ (λ (x : Activation) (xs : List Activation). x ∷ xs)
                 (activation-is l row′ k (suc next) (act row k 1) (act row k 2) (act row k 3) (act row k 4)
-                (behind (at 0) (omega arith) ∙ act-other passedOn (suc k) first end argument (at 0) (omega arith) ∙ new-word row (at 0) (suc next) (omega arith))
-                (keep (at 1) (omega arith)) (keep (at 2) (omega arith)) (keep (at 3) (omega arith)) (keep (at 4) (omega arith)))
+                on (keep (at 1) (omega arith)) (keep (at 2) (omega arith)) (keep (at 3) (omega arith)) (keep (at 4) (omega arith)))
                 (stack-same l row row′ k (λ i g h. keep i (omega arith))));
-            inside = at-or (λ (j : ℕ). j < suc (suc k) → act row′ j 1 ≤ statementCount tables) (suc k) (λ z. omega (arith, last))
-                (λ j ne z. omega (arith, keep (16 + j * 5 + 1) (omega arith, omega arith, omega arith, omega arith, λ g e. ne (omega arith)), runs .ends j (omega arith)));
+            inside = at-or (λ (j : ℕ). j < suc (suc k) → Inside tables row′ j) (suc k) (λ z. omega (arith, start, last))
+                (at-or (λ (j : ℕ). j ≢ suc k → j < suc (suc k) → Inside tables row′ j) k
+                (λ ne z. omega (arith, on, keep (at 1) (omega arith), runs .ends k (omega arith)))
+                (λ j other ne z. inside-kept row′ j (omega arith)
+                (keep (16 + j * 5 + 0) (omega arith, omega arith, omega arith, λ g. other (omega arith), λ g e. ne (omega arith)))
+                (keep (16 + j * 5 + 1) (omega arith, omega arith, omega arith, omega arith, λ g e. ne (omega arith)))));
             calls = λ shallow z. absurd (omega (arith, flag));
           })
 
@@ -338,6 +362,6 @@ module _ (text tables : List ℕ) (p : Program) (row values : List ℕ) (size : 
               (keep (16 + j * 5 + 0) (omega arith)) (keep (16 + j * 5 + 1) (omega arith)) (keep (16 + j * 5 + 2) (omega arith))
               (else-word two 2 (suc s) caller (omega arith) ∙ new-word one caller v (omega arith)) (keep (16 + j * 5 + 4) (omega arith)))
               (stack-same l row row′ j (λ i g h. keep i (omega arith)));
-          inside = λ i h. omega (arith, keep (16 + i * 5 + 1) (omega arith), runs .ends i (omega arith));
+          inside = λ i h. inside-kept row′ i (omega arith) (keep (16 + i * 5 + 0) (omega arith)) (keep (16 + i * 5 + 1) (omega arith));
           calls = λ shallow z. absurd (let s = shallow (sym (keep 11 (omega arith)) ∙ z) in omega (arith, s .0, deep));
         })

@@ -160,7 +160,7 @@ module _ (row : List ℕ) (size : length row ≡ 2264) (k v : ℕ) (few : k < 20
 
 -- A value set by a statement.
 pub assign-goes : (text tables : List ℕ) (p : Program) (row values : List ℕ) → length row ≡ 2264 → Running tables p row → (k : ℕ) → getD row 1 0 ≡ suc k
-    → getD row 2 0 < 1024 → act row k 0 < 4096 → (i v : ℕ) → i < 2048
+    → getD row 2 0 < 1024 → act row k 0 < act row k 1 → (i v : ℕ) → i < 2048
     → Goes text tables p row values (goingTo (skipRow (notedRow row i (getD values i 0))) (set values i v))
     (onwardRun (runOf text p row) (withRest (activationOf (p .library) row k) (between (p .library) (suc (act row k 0)) (act row k 1))
     ∷ stackOf (p .library) row k)) (store i v)
@@ -179,7 +179,7 @@ assign-goes text tables p row values size runs k deep early h i v few =
     let w17 = word (16 + k * 5 + 1) (omega arith) (omega arith) in
     let g = skip-goes text tables p mid values (n .long) runs′ k (w1 ∙ deep) (omega arith) (omega arith) in
     record {
-      said = refl;
+      answered = refl;
       fields = refl;
       size = g .size;
       phase = g .phase ∙ word 0 (omega arith) (omega arith);

@@ -10,8 +10,8 @@ use Rattle.model.specs.Base.{keep, upto}
 use Rattle.model.specs.Vector.{Program}
 use Rattle.model.specs.Message.{Target, visited}
 use Rattle.model.specs.Message as Model
-use Rattle.words.specs.View.{classCount, objectCount}
-use Rattle.state.specs.Turn.{inTarget, firstFrom, objectFrom}
+use Rattle.words.specs.View.{objectCount}
+use Rattle.state.specs.Turn.{targetThere, inTarget, firstFrom, objectFrom}
 use Rattle.refine.specs.Rep.{Fits, passing, objectsFrom, targetBy}
 use Rattle.refine.specs.Tables.{object-total, target-is}
 
@@ -85,6 +85,16 @@ module _ (q : ℕ → Bool) where
           let found = ih (omega arith) in
           (found .0, found .1 ∙ ap {B = List ℕ} (λ k. later ∷ passing q (suc later) k) m)
 
+  -- It is at most the number past them.
+  first-within : (from n : ℕ) → firstFrom q from n ≤ from + n
+  unfolding firstFrom
+  first-within from zero = omega arith
+  first-within from (suc n) = go (q from) (first-within (suc from) n)
+    where
+      go : (b : Bool) → firstFrom q (suc from) n ≤ suc from + n → cond b from (firstFrom q (suc from) n) ≤ from + suc n
+      go true h = omega arith
+      go false h = omega arith
+
   -- Where there is none, none passes.
   none-passes : (from n : ℕ) → from + n ≤ firstFrom q from n → passing q from n ≡ []
   unfolding firstFrom passing
@@ -100,6 +110,11 @@ module _ (q : ℕ → Bool) where
       go false ih h = ih (omega arith)
 
 -- ---- objects
+
+-- The next object is at most the number past the last.
+pub next-within : (tables : List ℕ) (kind n from : ℕ) → from ≤ objectCount tables → objectFrom tables kind n from ≤ objectCount tables
+unfolding objectFrom
+next-within tables kind n from h = omega (arith, first-within (inTarget tables kind n) from (objectCount tables - from))
 
 -- The objects of a target are those from 0 on.
 pub visited-is : (p : Program) (t : Target) → visited p t ≡ objectsFrom p t 0
@@ -126,7 +141,7 @@ module _ (text tables : List ℕ) (p : Program) (fits : Fits text tables p) wher
         rw m refl
 
   -- The next object by the words.
-  module _ (kind n from : ℕ) (there : 2 ≤ kind → n < classCount tables) where
+  module _ (kind n from : ℕ) (there : targetThere tables kind n ≡ true) where
     abbrev next : ℕ
     next = objectFrom tables kind n from
 

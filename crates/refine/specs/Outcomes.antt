@@ -1,6 +1,6 @@
 -- What a turn over the words comes to: the steps of the case analysis of a step, and the model's turn by its cases.
 use Prim.Native.Nat.{ℕ, suc, _≤_, _<_}
-use mathlib.Core.Path.{_≡_, refl, sym, ap, ap₂, subst, _∙_}
+use mathlib.Core.Path.{_≡_, refl, sym, ap, ap₂, subst, subst₂, _∙_}
 use mathlib.Core.Bool.{Bool, true, false, cond}
 use mathlib.Core.List.{List, _∷_}
 use lib.ListN.{getD}
@@ -8,6 +8,8 @@ use borrow.Author.Tests.{lt-ltb, le-ltb}
 use Rattle.model.specs.Form.{Statement}
 use Rattle.model.specs.Vector.{Program}
 use Rattle.model.specs.Message.{Effect, idle, look, Activation, Run, Outcome, goes, ends, stops, onward, inBody, onObject, limited, turn}
+use Rattle.theory.specs.Named.{NamedBody}
+use Rattle.theory.specs.NamedRuns.{classOn, NamedOn, NamedRun}
 use Rattle.words.specs.View.{objectCount}
 use Rattle.state.specs.Row.{Turn, stop, answer, carried}
 use Rattle.refine.specs.Rep.{Fits, Running, messageOf, activationOf, stackOf, objectsFrom, runOf}
@@ -26,11 +28,11 @@ module _ {text tables : List ℕ} {p : Program} {row values : List ℕ} where
 
   pub answers : (v : ℕ) → Comes text tables p row values (answer v) (ends v idle)
   unfolding carried
-  answers v = record { matches = record { said = refl; fields = refl; left = refl; effect = refl } }
+  answers v = record { matches = record { answered = refl; fields = refl; left = refl; effect = refl } }
 
   pub halts : Comes text tables p row values stop stops
   unfolding carried
-  halts = record { matches = record { said = refl; fields = refl; left = refl } }
+  halts = record { matches = record { answered = refl; fields = refl; left = refl } }
 
 module _ (text : List ℕ) (p : Program) (row : List ℕ) where
   abbrev r : Run
@@ -80,3 +82,10 @@ module _ (text tables : List ℕ) (p : Program) (fits : Fits text tables p) (row
       let below = stackOf (p .library) row k in
       turn-is text p row values (o ∷ later) (a ∷ below) here-is stack-is
       ∙ ap (λ (xs : List Statement). limited (inBody p (runOf text p row) o later a below (look p values o) xs)) e
+
+  -- The object knows the names of the statements that are left.
+  pub rest-named : NamedRun p (runOf text p row) → NamedBody (p .library) (classOn p o) (activationOf (p .library) row k .rest)
+  rest-named named =
+      let rests : NamedOn p (o ∷ later) (activationOf (p .library) row k ∷ stackOf (p .library) row k) =
+      subst₂ (λ (os : List ℕ) (below : List Activation). NamedOn p os below) here-is stack-is (named .rests) in
+      rests .0

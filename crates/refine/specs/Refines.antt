@@ -6,7 +6,6 @@ use mathlib.Core.Path.{_≡_, refl, sym, ap, subst, _∙_}
 use mathlib.Core.Bool.{Bool, true, false, not, cond}
 use mathlib.Core.Option.{Option, none, some}
 use mathlib.Core.List.{List}
-use lib.ListN.{getD}
 use lib.Dec.{eqb, leb}
 use borrow.Author.Tests.{leb-true, leb-false, lt-ltb, le-ltb}
 use Rattle.model.specs.Vector.{Program}
@@ -15,8 +14,8 @@ use Rattle.model.specs.Service.{Slot, closed, opened, Transaction, World, fresh
 use Rattle.model.specs.Service as Told
 use Rattle.model.specs.Machine.{service, Call, begin, send, step, commit, abort, call}
 use Rattle.state.specs.Row.{blank}
-use Rattle.state.specs.Calls.{refused, tablesOf, rowOf, slotIn, byPhase, onClosed, onIdle, onRunning, called}
-use Rattle.refine.specs.Rep.{OpenRep, NowRep, SlotRep, Rep, Fresh, told}
+use Rattle.state.specs.Calls.{refused, tablesOf, rowOf, phaseOf, slotIn, byPhase, onClosed, onIdle, onRunning, called}
+use Rattle.refine.specs.Rep.{OpenRep, NowRep, SlotRep, Rep, Fresh}
 use Rattle.refine.specs.Locks.{blank-word}
 use Rattle.refine.specs.Transitions.{Follows, begins, commits, aborts, steps}
 use Rattle.refine.specs.Sends.{sends-by}
@@ -52,47 +51,47 @@ module _ (text ws values : List ℕ) (p : Program) (slots : ℕ → Slot (servic
       → (r : Run) → NowRep text (tablesOf ws) p (rowOf ws (slotIn c)) (some r) → Follows text p (onRunning text ws values c) (Told.onRunning (service p) w t r c)
   running-follows (begin s) h t o r n = (refl, rep)
   running-follows (send s q) h t o r n = (refl, rep)
-  running-follows (step s) h t o r n = steps text ws values p slots rep s h t o r (n .0) (n .1) (n .2)
+  running-follows (step s) h t o r n = steps text ws values p slots rep s h t o r n
   running-follows (commit s) h t o r n = (refl, rep)
   running-follows (abort s) h t o r n = aborts text ws values p slots rep s h t o
 
   open-follows : (c : Call) → slotIn c < 8 → (t : Transaction (service p)) → OpenRep text (tablesOf ws) p (rowOf ws (slotIn c)) t
       → (r : Option Run) → NowRep text (tablesOf ws) p (rowOf ws (slotIn c)) r
-      → Follows text p (byPhase text ws values c (getD (rowOf ws (slotIn c)) 0 0)) (onOpen (service p) w c t r)
+      → Follows text p (byPhase text ws values c (phaseOf (rowOf ws (slotIn c)))) (onOpen (service p) w c t r)
   open-follows c h t o none n =
       subst (λ (i : ℕ). Follows text p (byPhase text ws values c i) (onOpen (service p) w c t none)) (sym n) (idle-follows c h t o)
   open-follows c h t o (some r) n =
       subst (λ (i : ℕ). Follows text p (byPhase text ws values c i) (onOpen (service p) w c t (some r))) (sym (n .0)) (running-follows c h t o r n)
 
   slot-follows : (c : Call) → slotIn c < 8 → (z : Slot (service p)) → SlotRep text (tablesOf ws) p (rowOf ws (slotIn c)) z
-      → Follows text p (byPhase text ws values c (getD (rowOf ws (slotIn c)) 0 0)) (onSlot (service p) w c z)
+      → Follows text p (byPhase text ws values c (phaseOf (rowOf ws (slotIn c)))) (onSlot (service p) w c z)
   slot-follows c h closed e =
       subst (λ (i : ℕ). Follows text p (byPhase text ws values c i) (onSlot (service p) w c closed))
-      (sym (ap (λ (r : List ℕ). getD r 0 0) e ∙ blank-word 0)) (closed-follows c h e)
+      (sym (ap phaseOf e ∙ blank-word 0)) (closed-follows c h e)
   slot-follows c h (opened t) o = open-follows c h t o (t .running) (o .now)
 
   call-follows : (c : Call) → Follows text p (called text ws values c) (call p w c)
   unfolding called
   call-follows c =
       subst (λ (n : ℕ). Follows text p (cond (not (eqb n 0)) (refused ws values n)
-      (cond (leb 8 (slotIn c)) (refused ws values 31) (byPhase text ws values c (getD (rowOf ws (slotIn c)) 0 0))))
+      (cond (leb 8 (slotIn c)) (refused ws values 31) (byPhase text ws values c (phaseOf (rowOf ws (slotIn c))))))
       (call p w c)) (sym (rep .fit)) (go (leb 8 (slotIn c)) refl)
     where
       go : (b : Bool) → leb 8 (slotIn c) ≡ b
-          → Follows text p (cond b (refused ws values 31) (byPhase text ws values c (getD (rowOf ws (slotIn c)) 0 0))) (call p w c)
+          → Follows text p (cond b (refused ws values 31) (byPhase text ws values c (phaseOf (rowOf ws (slotIn c))))) (call p w c)
       go true e =
           subst (λ (b : Bool). Follows text p (refused ws values 31) (inRange (service p) w c b))
           (sym (le-ltb (slotOf (service p) c) 8 (omega (arith, leb-true 8 (slotIn c) e, slot-is p c)))) (refl, rep)
       go false e =
           let h = leb-false 8 (slotIn c) e in
-          subst (λ (b : Bool). Follows text p (byPhase text ws values c (getD (rowOf ws (slotIn c)) 0 0)) (inRange (service p) w c b))
+          subst (λ (b : Bool). Follows text p (byPhase text ws values c (phaseOf (rowOf ws (slotIn c)))) (inRange (service p) w c b))
           (sym (lt-ltb (slotOf (service p) c) 8 (omega (arith, slot-is p c))))
-          (subst (λ (i : ℕ). Follows text p (byPhase text ws values c (getD (rowOf ws (slotIn c)) 0 0)) (onSlot (service p) w c (slots i))) (slot-is p c)
+          (subst (λ (i : ℕ). Follows text p (byPhase text ws values c (phaseOf (rowOf ws (slotIn c)))) (onSlot (service p) w c (slots i))) (slot-is p c)
           (slot-follows c h (slots (slotIn c)) (rep .slots (slotIn c) h)))
 
 -- Every call: the answer is the model's, and the words and values after it represent the world after it.
 pub refines : (text ws values : List ℕ) (p : Program) (w : World (service p)) → Rep text ws values p w → (c : Call)
-    → (told (called text ws values c .answered) ≡ call p w c .0) × Rep text (called text ws values c .words) (called text ws values c .values) p (call p w c .1)
+    → (called text ws values c .answered ≡ call p w c .0) × Rep text (called text ws values c .words) (called text ws values c .values) p (call p w c .1)
 refines text ws values p w rep c =
     let same : record { fields = values; slots = w .slots } ≡ w = λ i. record { fields = sym (rep .fields) i; slots = w .slots } in
     subst (λ (v : World (service p)). Follows text p (called text ws values c) (call p v c)) same

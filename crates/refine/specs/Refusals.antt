@@ -1,4 +1,4 @@
--- On words that represent a world no call gives 21, 22 or 24, since no call of the model does.
+-- On words that represent a world no call gives 21 or 24, since no call of the model does.
 use Prim.Native.Nat.{ℕ, _≤_}
 use native.Mathlib.Omega.{arith}
 use mathlib.Core.Path.{_≡_, sym, ap, _∙_}
@@ -9,21 +9,21 @@ use lib.Dec.{ltb}
 use Rattle.model.specs.Vector.{Program}
 use Rattle.model.specs.Base.{least}
 use Rattle.model.specs.Message.{Message, Run, Outcome, goes, ends, stops, turn}
-use Rattle.model.specs.Service.{Answer, Slot, closed, opened, Transaction, World, granted, sent, stepped, onOpen, onSlot, slotOf, inRange}
+use Rattle.model.specs.Service.{Answer, done, going, answer, refuse, held, stopped, Slot, closed, opened, Transaction, World, granted, sent, stepped, onOpen, onSlot, slotOf, inRange}
 use Rattle.model.specs.Service as Told
 use Rattle.model.specs.Machine.{service, find, Call, begin, send, step, commit, abort, call}
-use Rattle.state.specs.Calls.{number, called}
-use Rattle.refine.specs.Rep.{Rep, told}
+use Rattle.state.specs.Calls.{called}
+use Rattle.refine.specs.Rep.{Rep}
 use Rattle.refine.specs.Refines.{refines}
 
 -- The number of a refusal; of any other answer the least that a call refuses with.
 abbrev refusal : Answer → ℕ
-refusal Told.done = 31
-refusal Told.going = 31
-refusal (Told.answer v) = 31
-refusal (Told.refuse n) = n
-refusal (Told.held s) = 31
-refusal Told.stopped = 31
+refusal done = 31
+refusal going = 31
+refusal (answer v) = 31
+refusal (refuse n) = n
+refusal (held s) = 31
+refusal stopped = 31
 
 module _ (p : Program) (w : World (service p)) where
   sent-number : (s : ℕ) (t : Transaction (service p)) (m : Option Message) → 31 ≤ refusal (sent (service p) w s t m .0)
@@ -69,9 +69,9 @@ module _ (p : Program) (w : World (service p)) where
       go false = omega arith
       go true = by-slot (w .slots (slotOf (service p) c))
 
--- On words that represent a world no call gives 21, 22 or 24: every number that it refuses with is 31 or more.
+-- On words that represent a world no call gives 21 or 24: every number that it refuses with is 31 or more.
 pub never-unfit : (text ws values : List ℕ) (p : Program) (w : World (service p)) → Rep text ws values p w → (c : Call) (n : ℕ)
-    → called text ws values c .answered ≡ number n → 31 ≤ n
+    → called text ws values c .answered ≡ refuse n → 31 ≤ n
 never-unfit text ws values p w rep c n e =
-    let same : refusal (call p w c .0) ≡ n = ap refusal (sym (refines text ws values p w rep c .0) ∙ ap told e) in
+    let same : refusal (call p w c .0) ≡ n = ap refusal (sym (refines text ws values p w rep c .0) ∙ e) in
     omega (arith, call-number p w c)

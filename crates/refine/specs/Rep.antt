@@ -17,13 +17,15 @@ use Rattle.model.specs.Image.{commuteMask}
 use Rattle.model.specs.Message.{Target, object, class, domain, Message, Activation, Run, baseOf}
 use Rattle.model.specs.Message as Model
 use Rattle.model.specs.Lock.{Lock, onObject, onClass}
-use Rattle.model.specs.Service.{Answer, Slot, closed, opened, Transaction, World}
-use Rattle.model.specs.Service as Told
+use Rattle.model.specs.Service.{Slot, closed, opened, Transaction, World}
 use Rattle.model.specs.Machine.{service}
 use Rattle.theory.specs.Copies.{Copied}
+use Rattle.theory.specs.Named.{Names}
+use Rattle.theory.specs.NamedRuns.{NamedRun}
 use Rattle.words.specs.View.{nameOf, partOf, classWord, objectWord, statementWord, classCount, objectCount, statementCount, memberCount, bit, libraryOf}
 use Rattle.state.specs.Row.{act, noteAt, blank}
-use Rattle.state.specs.Calls.{Answered, done, goes, halt, answer, number, held, tablesOf, rowOf, misfitOf}
+use Rattle.state.specs.Turn.{targetThere}
+use Rattle.state.specs.Calls.{tablesOf, rowOf, phaseOf, misfitOf}
 
 -- ---- what a row says
 
@@ -153,22 +155,26 @@ pub record Fits (text tables : List ℕ) (p : Program) : Type 0 where
       → let b = getD (classAt (p .library) c .methods) j noMember in b .first + b .count ≤ statementCount tables
   pub copies : (c j : ℕ) → c < classCount tables → j < memberCount tables c 1 → Copied (p .library) (getD (classAt (p .library) c .methods) j noMember)
   pub lines : (s : ℕ) → s < statementCount tables → formOf (words (partOf text (statementWord tables s))) ≡ statementLine (statementAt (p .library) s)
+  pub places : (s : ℕ) → s < statementCount tables → let w = statementWord tables s in w / 65536 + w % 65536 ≤ length text
+  pub names : Names (p .library)
 
 -- ---- slots and worlds
 
--- What holds of a row whose message runs: while it is on an object, that is one of its target's, and there are 1 to 8
--- activations, each within the text's statements; a domain is that of a class that exists.
+-- What holds of a row whose message runs: its target is there; it is on an object of the target, with 1 to 8 activations, each
+-- within the text's statements, or past the last object.
 pub record Running (tables : List ℕ) (p : Program) (row : List ℕ) : Type 0 where
   pub depth : getD row 1 0 ≤ 8
+  pub within : getD row 4 0 ≤ objectCount tables
   pub active : getD row 4 0 < objectCount tables → 0 < getD row 1 0
   pub visiting : getD row 4 0 < objectCount tables → Model.inTarget p (targetBy (getD row 5 0) (getD row 6 0)) (getD row 4 0) ≡ true
+  pub starts : (k : ℕ) → k < getD row 1 0 → act row k 0 ≤ act row k 1
   pub ends : (k : ℕ) → k < getD row 1 0 → act row k 1 ≤ statementCount tables
-  pub domain : 2 ≤ getD row 5 0 → getD row 6 0 < classCount tables
+  pub target : targetThere tables (getD row 5 0) (getD row 6 0) ≡ true
 
--- What runs in an open slot: nothing (phase 1), or the run that the row says (phase 2).
+-- What runs in an open slot: nothing (phase 1), or the run that the row says (phase 2), whose names are known.
 abbrev pub NowRep : List ℕ → List ℕ → Program → List ℕ → Option Run → Type 0
-NowRep text tables p row none = getD row 0 0 ≡ 1
-NowRep text tables p row (some r) = (getD row 0 0 ≡ 2) × (r ≡ runOf text p row) × Running tables p row
+NowRep text tables p row none = phaseOf row ≡ 1
+NowRep text tables p row (some r) = (phaseOf row ≡ 2) × (r ≡ runOf text p row) × Running tables p row × NamedRun p r
 
 -- At most one activation is open, and the words of the others are 0.
 abbrev pub Shallow : List ℕ → Type 0
@@ -205,12 +211,3 @@ pub record Fresh (text ws values : List ℕ) (p : Program) : Type 0 where
   pub fit : misfitOf text ws values ≡ 0
   pub fits : Fits text (tablesOf ws) p
   pub rows : (t : ℕ) → t < 8 → rowOf ws t ≡ blank
-
--- An answer over the words as the model has it.
-abbrev pub told : Answered → Answer
-told done = Told.done
-told goes = Told.going
-told halt = Told.stopped
-told (answer v) = Told.answer v
-told (number n) = Told.refuse n
-told (held s) = Told.held s

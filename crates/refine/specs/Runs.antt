@@ -18,6 +18,7 @@ use Rattle.model.specs.Message.{Target, Message, Activation}
 use Rattle.model.specs.Message as Model
 use Rattle.words.specs.View.{bit, nameOf}
 use Rattle.state.specs.Row.{act, noteIf, noteAt}
+use Rattle.state.specs.Turn.{targetThere}
 use Rattle.theory.specs.ListLaws.{map-at}
 use Rattle.refine.specs.Rep.{targetBy, messageOf, statementAt, between, activationOf, stackOf, objectsFrom, runOf, Running}
 
@@ -128,8 +129,14 @@ module _ (text : List ℕ) (p : Program) where
         let deep = runs .depth in
         record {
           depth = omega arith;
+          within = let a = runs .within in omega arith;
           active = λ h. let a = runs .active (omega arith) in omega arith;
           visiting = λ h. ap₂ (λ (t : Target) (o : ℕ). Model.inTarget p t o) (ap₂ targetBy w5 w6) w4 ∙ runs .visiting (omega arith);
+          starts = λ k h.
+              let e = runs .starts k (omega arith) in
+              let q = stack (16 + k * 5 + 0) (omega arith) (omega arith) in
+              let z = stack (16 + k * 5 + 1) (omega arith) (omega arith) in
+              omega arith;
           ends = λ k h. let e = runs .ends k (omega arith) in let q = stack (16 + k * 5 + 1) (omega arith) (omega arith) in omega arith;
-          domain = λ h. let d = runs .domain (omega arith) in omega arith;
+          target = ap₂ (targetThere tables) w5 w6 ∙ runs .target;
         }

@@ -2,32 +2,36 @@
 use Prim.Native.Nat.{ℕ, zero, suc, _<_}
 use native.Mathlib.Omega.{arith}
 use mathlib.Core.Path.{_≡_, refl, sym, ap, ap₂, subst, _∙_}
-use mathlib.Core.Bool.{Bool, true, false, not, cond, _&&_}
+use mathlib.Core.Bool.{Bool, true, false, not, cond, _&&_, and-assoc}
 use mathlib.Core.Option.{Option, none, some, orElse}
 use mathlib.Core.List.{List, [], _++_}
 use lib.ListN.{length, length-map}
 use lib.Dec.{eqb, leb, ltb}
-use borrow.Author.Tests.{leb-true, leb-false, lt-leb, ltb-true, lt-ltb, le-ltb}
-use Rattle.model.specs.Base.{least}
-use Rattle.model.specs.Library.{classAt, methodNames}
+use borrow.Author.Tests.{leb-true, leb-false, lt-leb, ltb-true, lt-ltb, le-ltb, ne-eqb}
+use Rattle.model.specs.Base.{any, upto, least}
+use Rattle.model.specs.Library.{classAt, memberPlace, among, methodNames}
 use Rattle.model.specs.Vector.{Program}
 use Rattle.model.specs.Message.{Target, object, class, domain, Message}
 use Rattle.model.specs.Message as Model
-use Rattle.model.specs.Lock.{locksFor}
+use Rattle.model.specs.Lock.{Lock, locksFor, lockClash, locksClash}
+use Rattle.theory.specs.ListLaws.{none-any}
+use Rattle.theory.specs.Lookup.{place-known, name-known}
+use Rattle.theory.specs.NamedRuns.{domain-methods}
 use Rattle.model.specs.Service.{Slot, closed, opened, Transaction, World, heldBy, granted, sent}
 use Rattle.model.specs.Service as Told
 use Rattle.model.specs.Machine.{service, methodAt, Request, to, find}
 use Rattle.words.specs.View.{objectWord, classCount, objectCount, memberCount}
-use Rattle.state.specs.Request.{Wanted, locked, begunRow}
-use Rattle.state.specs.Calls.{refused, tablesOf, rowOf, wanted, inTheWay, grantedOr, sentTo, sentBy}
-use Rattle.refine.specs.Rep.{Holds, OpenRep, SlotRep, Rep}
+use Rattle.state.specs.Request.{Wanted, lacks, lacking, rowMeets, locked, First, on, past, nowhere, firstOf, entered}
+use Rattle.state.specs.Calls.{After, refused, tablesOf, rowOf, phaseOf, wanted, inTheWay, startedAt, startedOr, grantedOr, sentTo, sentBy}
+use Rattle.refine.specs.Rep.{Fits, OpenRep, SlotRep, Rep}
 use Rattle.refine.specs.Tables.{class-total, object-total, method-total, class-is}
 use Rattle.refine.specs.Runs.{note-same}
-use Rattle.refine.specs.Locks.{blank-holds, holds-alike}
-use Rattle.refine.specs.RowTest.{Aims, one, each, whole, row-clash}
+use Rattle.refine.specs.Locks.{blank-word, holds-alike}
+use Rattle.refine.specs.Clashes.{below-count}
+use Rattle.refine.specs.RowTest.{Aims, one, each, whole, methodOf, place-there, domain-there, row-clash}
 use Rattle.refine.specs.Taking.{took-locks}
-use Rattle.refine.specs.Starts.{messageFor, starts}
-use Rattle.refine.specs.State.{moved}
+use Rattle.refine.specs.Starts.{messageFor, There, starts}
+use Rattle.refine.specs.State.{open-phase, moved}
 use Rattle.refine.specs.Transitions.{Follows, row-size}
 use Rattle.refine.specs.Freeing.{clean-alike}
 
@@ -37,10 +41,44 @@ unfolding least
 least-same q r zero e = refl
 least-same q r (suc n) e = ap₂ (λ (x : Option ℕ) (b : Bool). orElse x (cond b (some n) none)) (least-same q r n (λ k l. e k (omega arith))) (e n (omega arith))
 
--- A slot's row holds the slot's locks; a closed slot has none.
-slot-holds : (text tables : List ℕ) (p : Program) (row : List ℕ) (z : Slot (service p)) → SlotRep text tables p row z → Holds p row (heldBy (service p) z)
-slot-holds text tables p row closed e = subst (λ (r : List ℕ). Holds p r []) (sym e) (blank-holds p)
-slot-holds text tables p row (opened t) o = o .locks
+-- Nothing clashes with no locks.
+no-clash : (p : Program) (ks : List Lock) → locksClash p ks [] ≡ false
+unfolding locksClash any
+no-clash p ks = none-any (λ k. any (lockClash p k) []) ks (λ k i. refl)
+
+-- A message that starts somewhere is started.
+started-there : (text ws values : List ℕ) (s : ℕ) (q : Wanted) (f : First) → There f → startedOr text ws values s q f ≡ startedAt text ws values s q f
+started-there text ws values s q (on o first end) h = refl
+started-there text ws values s q (past o) h = refl
+started-there text ws values s q nowhere h = absurd h
+
+-- No class of a send's domain lacks its method.
+module _ (text tables : List ℕ) (p : Program) (fits : Fits text tables p) (c k a : ℕ) (h : c < classCount tables) (has : k < memberCount tables c 1) where
+  class-has : (d : ℕ) → d < classCount tables → lacks text tables (wanted tables 2 c c k a) d ≡ false
+  unfolding lacks
+  class-has d l =
+      ap₂ (λ (b : Bool) (i : ℕ). b && leb (memberCount tables d 1) i) (domain-there text tables p fits c k a h has 2 d l)
+      (place-there text tables p fits c k a h has 2 c d l)
+      ∙ go (Model.inDomain p c d) refl
+    where
+      place : ℕ
+      place = memberPlace (classAt (p .library) d .methods) (methodOf p c k)
+
+      known : among (classAt (p .library) c .methods) (methodOf p c k) ≡ true
+      known = name-known (classAt (p .library) c .methods) k (omega (arith, method-total text tables p fits c h))
+
+      go : (b : Bool) → Model.inDomain p c d ≡ b → (b && leb (memberCount tables d 1) place) ≡ false
+      go true e =
+          let there = place-known (classAt (p .library) d .methods) (methodOf p c k) (domain-methods p (fits .names) c d e (methodOf p c k) known) in
+          lt-leb (memberCount tables d 1) place (omega (arith, method-total text tables p fits d l))
+      go false e = refl
+
+  none-lacks : (kind n : ℕ) (t : Target) → Aims tables c kind n t → lacking text tables (wanted tables kind n c k a) ≡ false
+  unfolding lacking
+  none-lacks kind n t (one o l e) = refl
+  none-lacks kind n t each = refl
+  none-lacks kind n t whole =
+      none-any (lacks text tables (wanted tables 2 c c k a)) (upto (λ d. d) (classCount tables)) (λ d i. class-has d (below-count (classCount tables) i))
 
 module _ (text ws values : List ℕ) (p : Program) (slots : ℕ → Slot (service p)) (rep : Rep text ws values p (record { fields = values; slots = slots }))
     (s : ℕ) (h : s < 8) (t : Transaction (service p)) (open′ : OpenRep text (tablesOf ws) p (rowOf ws s) t) where
@@ -69,18 +107,31 @@ module _ (text ws values : List ℕ) (p : Program) (slots : ℕ → Slot (servic
     way-same : least (inTheWay text ws s q) 8 ≡ least (Told.inTheWay (service p) w s m) 8
     unfolding inTheWay
     way-same = least-same (inTheWay text ws s q) (Told.inTheWay (service p) w s m) 8 (λ u b.
-        ap (λ (y : Bool). not (eqb u s) && y)
-        (row-clash text tables p (rep .fits) c k a l has (rowOf ws u) (heldBy (service p) (slots u))
-        (slot-holds text tables p (rowOf ws u) (slots u) (rep .slots u b)) kind n x aims))
+        and-assoc (not (eqb u s)) (not (eqb (phaseOf (rowOf ws u)) 0)) (rowMeets text tables q (rowOf ws u))
+        ∙ ap (λ (y : Bool). not (eqb u s) && y) (go (rowOf ws u) (slots u) (rep .slots u b)))
+      where
+        clash : List Lock → Bool
+        clash held = locksClash p (locksFor p x (methodOf p c k)) held
+
+        go : (r : List ℕ) (z : Slot (service p)) → SlotRep text tables p r z
+            → (not (eqb (phaseOf r) 0) && rowMeets text tables q r) ≡ clash (heldBy (service p) z)
+        go r closed e =
+            ap (λ (i : ℕ). not (eqb i 0) && rowMeets text tables q r) (ap phaseOf e ∙ blank-word 0) ∙ sym (no-clash p (locksFor p x (methodOf p c k)))
+        go r (opened y) o =
+            ap (λ (b : Bool). not b && rowMeets text tables q r) (ne-eqb (phaseOf r) 0 (open-phase text tables p r y o))
+            ∙ row-clash text tables p (rep .fits) c k a l has r (y .locks) (o .locks) kind n x aims
 
     -- The row with its locks and the message's start.
     grants : Follows text p (grantedOr text ws values s q none) (granted (service p) w s t m none)
     grants =
         let took = took-locks text tables p (rep .fits) c k a l has row size (t .locks) (open′ .locks) kind n x aims in
         let row₁ = locked text tables q row in
-        let start = starts text tables p (rep .fits) c k a l has kind n x aims row₁ (took .long) in
-        let row₂ = begunRow text tables q row₁ in
-        let locks = locksFor p x (m .method) ++ t .locks in (
+        let started = starts text tables p (rep .fits) c k a l has kind n x aims row₁ (took .long) in
+        let start = started .1 in
+        let f = firstOf text tables q in
+        let row₂ = entered q f row₁ in
+        let locks = locksFor p x (m .method) ++ t .locks in
+        subst (λ (y : After). Follows text p y (granted (service p) w s t m none)) (sym (started-there text ws values s q f (started .0))) (
           refl,
           moved text ws values p slots rep s h row₂ values (start .long) refl (opened (record { locks = locks; undo = t .undo; running = some (Model.begun p m) }))
               (record {
@@ -89,7 +140,7 @@ module _ (text ws values : List ℕ) (p : Program) (slots : ℕ → Slot (servic
                     ∙ note-same row row₁ (λ i g e. took .kept i (omega arith) (λ y z. omega arith)) j ∙ open′ .undo j;
                 clean = clean-alike row₁ row₂ (start .head) (start .tail) (λ d. start .depth) (took .clean (open′ .clean));
                 locks = holds-alike text tables p (rep .fits) row₁ row₂ locks (λ i g e. start .tail i (omega arith) (omega arith)) (took .holds);
-                now = (start .phase, start .run, start .runs);
+                now = (start .phase, start .run, start .runs, start .names);
               }),
         )
 
@@ -122,7 +173,7 @@ module _ (text ws values : List ℕ) (p : Program) (slots : ℕ → Slot (servic
       go false e =
           let has = leb-false (memberCount tables c 1) k e in
           let f : ltb k (length (methodNames (p .library) c)) ≡ true = lt-ltb k (length (methodNames (p .library) c)) (omega (arith, names)) in
-          rw (known, e, f) (sends c k a l has kind n x aims)
+          rw (known, e, none-lacks text tables p (rep .fits) c k a l has kind n x aims, f) (sends c k a l has kind n x aims)
 
   -- A send, whatever it names.
   pub sends-by : (q : Request) → Follows text p (sentBy text ws values s q) (sent (service p) w s t (find p q))

@@ -5,25 +5,28 @@ use native.Mathlib.Decide.{decLt}
 use mathlib.Core.Path.{_≡_, refl, sym, ap, ap₂, subst, _∙_}
 use mathlib.Core.Logic.{_≢_}
 use mathlib.Core.Bool.{Bool, true, cond}
+use mathlib.Core.Option.{none, some}
 use mathlib.Core.List.{List, [], _∷_}
-use lib.ListN.{length, getD, set, length-set}
+use lib.ListN.{length, getD, set, length-set, length-map}
 use lib.Dec.{ltb}
 use borrow.Author.Tests.{lt-ltb, le-ltb}
-use Rattle.model.specs.Library.{Member}
+use Rattle.model.specs.Library.{Member, classAt, among, methodNames}
 use Rattle.model.specs.Vector.{Program}
-use Rattle.model.specs.Message.{Target, Message, Run, visit}
+use Rattle.model.specs.Message.{Target, object, class, domain, Message, Run, visit}
 use Rattle.model.specs.Message as Model
+use Rattle.model.specs.Machine.{methodAt, to, find}
+use Rattle.theory.specs.NamedRuns.{classOn, NamedRun, begun-named}
 use Rattle.words.specs.View.{nameOf, objectWord, classCount, objectCount, memberCount}
-use Rattle.state.specs.Row.{objectRow}
-use Rattle.state.specs.Turn.{objectFrom, bodyIn, bodyAt}
-use Rattle.state.specs.Request.{Wanted, begunRow}
+use Rattle.words.specs.Bodies.{bodyIn, bodyAt}
+use Rattle.state.specs.Turn.{targetThere, objectFrom}
+use Rattle.state.specs.Request.{Wanted, First, on, past, nowhere, firstOn, firstOf, namedRow, pastRow, entered}
 use Rattle.state.specs.Calls.{wanted}
 use Rattle.refine.specs.Rep.{Fits, Running, targetBy, messageOf, objectsFrom, runOf}
-use Rattle.refine.specs.Tables.{method-name, body-at}
-use Rattle.refine.specs.Objects.{visited-is, next-some, next-none}
+use Rattle.refine.specs.Tables.{methodFor, class-total, object-total, method-total, method-name, class-is, resolving, body-at}
+use Rattle.refine.specs.Objects.{visited-is, next-within, next-some, next-none}
 use Rattle.refine.specs.Runs.{Alike}
 use Rattle.refine.specs.Stores.{else-word, new-word}
-use Rattle.refine.specs.Visits.{headRow, visitRow, head-length, head-other, head-depth, empty-run, empty-running, visit-length, visit-other, visit-depth, visit-run, visit-running}
+use Rattle.refine.specs.Visits.{visitRow, head-length, head-other, head-depth, empty-run, empty-running, visit-length, visit-other, visit-body, visit-depth, visit-run, visit-running}
 use Rattle.refine.specs.RowTest.{Aims, one, each, whole, methodOf}
 
 target-of : (tables : List ℕ) (c kind n : ℕ) (t : Target) → Aims tables c kind n t → targetBy kind n ≡ t
@@ -31,14 +34,21 @@ target-of tables c kind n t (one o h e) = refl
 target-of tables c kind n t each = refl
 target-of tables c kind n t whole = refl
 
-domain-of : (tables : List ℕ) (c kind n : ℕ) (t : Target) → c < classCount tables → Aims tables c kind n t → 2 ≤ kind → n < classCount tables
-domain-of tables c kind n t h (one o l e) k = absurd (omega arith)
-domain-of tables c kind n t h each k = absurd (omega arith)
-domain-of tables c kind n t h whole k = h
+there-of : (tables : List ℕ) (c kind n : ℕ) (t : Target) → c < classCount tables → Aims tables c kind n t → targetThere tables kind n ≡ true
+unfolding targetThere
+there-of tables c kind n t h (one o l e) = lt-ltb o (objectCount tables) l
+there-of tables c kind n t h each = lt-ltb c (classCount tables) h
+there-of tables c kind n t h whole = lt-ltb c (classCount tables) h
 
 -- The message to a target of the method at place k of class c.
 abbrev pub messageFor : Program → Target → ℕ → ℕ → ℕ → Message
 messageFor p t c k a = record { target = t; method = methodOf p c k; argument = a }
+
+-- A message that starts somewhere.
+abbrev pub There : First → Type 0
+There (on o first end) = Unit {0}
+There (past o) = Unit {0}
+There nowhere = ⊥
 
 -- A row at the start of a run.
 pub record Starts (text tables : List ℕ) (p : Program) (row row′ : List ℕ) (r : Run) : Type 0 where
@@ -46,6 +56,7 @@ pub record Starts (text tables : List ℕ) (p : Program) (row row′ : List ℕ)
   pub phase : getD row′ 0 0 ≡ 2
   pub run : r ≡ runOf text p row′
   pub runs : Running tables p row′
+  pub names : NamedRun p r
   pub depth : getD row′ 1 0 ≤ 1
   pub head : Alike 9 12 row row′
   pub tail : Alike 21 2264 row row′
@@ -114,8 +125,36 @@ module _ (text tables : List ℕ) (p : Program) (fits : Fits text tables p) (c k
     argument = word8 i;
   }
 
-  there : 2 ≤ getD named 5 0 → getD named 6 0 < classCount tables
-  there l = let z = domain-of tables c kind n t h aims (omega (arith, word5)) in omega (arith, word6)
+  target : targetThere tables kind n ≡ true
+  target = there-of tables c kind n t h aims
+
+  there : targetThere tables (getD named 5 0) (getD named 6 0) ≡ true
+  there = ap₂ (targetThere tables) word5 word6 ∙ target
+
+  -- The model finds the message, and so its names are known.
+  found-is : find p (to t k a) ≡ some message
+  found-is = go kind n t aims
+    where
+      method : (d : ℕ) → d ≡ c → (t : Target) → methodAt p t d k a ≡ some (messageFor p t c k a)
+      method d e t =
+          let inside : ltb k (length (methodNames (p .library) c)) ≡ true =
+          lt-ltb k (length (methodNames (p .library) c))
+          (omega (arith, length-map (classAt (p .library) c .methods) (λ z. z .name), method-total text tables p fits c h)) in
+          ap (λ (i : ℕ). methodAt p t i k a) e ∙ ap (λ (b : Bool). cond b (some (messageFor p t c k a)) none) inside
+
+      class-there : ltb c (length (p .library .classes)) ≡ true
+      class-there = lt-ltb c (length (p .library .classes)) (omega (arith, class-total text tables p fits))
+
+      go : (kind n : ℕ) (t : Target) → Aims tables c kind n t → find p (to t k a) ≡ some (messageFor p t c k a)
+      go kind n t (one o l e) =
+          let there : ltb o (length (p .library .objects)) ≡ true =
+          lt-ltb o (length (p .library .objects)) (omega (arith, object-total text tables p fits)) in
+          rw there (method (Model.classOf p o) (class-is text tables p fits o l ∙ e) (object o))
+      go kind n t each = rw class-there (method c refl (class c))
+      go kind n t whole = rw class-there (method c refl (domain c))
+
+  begun-known : NamedRun p (Model.begun p message)
+  begun-known = begun-named p (fits .names) (resolving text tables p fits) (to t k a) message found-is
 
   -- ---- its first object
 
@@ -125,48 +164,50 @@ module _ (text tables : List ℕ) (p : Program) (fits : Fits text tables p) (c k
   target-named : messageOf text named .target ≡ targetBy kind n
   target-named = ap₂ targetBy word5 word6
 
-  -- The row as the words write it.
-  abbrev written : Bool → List ℕ
-  written there′ =
-      let b = bodyAt text tables (objectWord tables o 1) k (q .name) in
-      cond there′ (objectRow o (b .first) (b .first + b .count) 0 named) (headRow named o 0 0)
+  -- Where it starts, and the row there.
+  abbrev Started : First → Type 0
+  Started f = There f × Starts text tables p row (entered q f row) (Model.begun p message)
 
-  written-is : begunRow text tables q row ≡ written (ltb o (objectCount tables))
-  unfolding begunRow
-  written-is = refl
-
-  abbrev Started : List ℕ → Type 0
-  Started row′ = Starts text tables p row row′ (Model.begun p message)
-
-  starts-some : o < objectCount tables → Started (begunRow text tables q row)
+  starts-some : o < objectCount tables → Started (firstOf text tables q)
+  unfolding firstOf entered namedRow
   starts-some l =
-      subst Started (sym is) (record {
-        long = visit-length text tables p fits named named-length there o 0 l aimed;
-        phase = other 0 (omega arith) ∙ word0;
-        run = begun-is ∙ sym (visit-run text tables p fits named named-length there o 0 l aimed);
-        runs = visit-running text tables p fits named named-length there o 0 l aimed;
-        depth = omega (arith, visit-depth text tables p fits named named-length there o 0 l aimed);
-        head = λ i g e. other i (omega arith) ∙ named-other i (omega arith);
-        tail = λ i g e. other i (omega arith) ∙ named-other i (omega arith);
-      })
+      subst Started (sym is) (
+        tt,
+        record {
+          long = visit-length text tables p fits named named-length there o 0 l aimed known;
+          phase = other 0 (omega arith) ∙ word0;
+          run = begun-is ∙ sym (visit-run text tables p fits named named-length there o 0 l aimed known);
+          runs = visit-running text tables p fits named named-length there o 0 l aimed known;
+          names = begun-known;
+          depth = omega (arith, visit-depth text tables p fits named named-length there o 0 l aimed known);
+          head = λ i g e. other i (omega arith) ∙ named-other i (omega arith);
+          tail = λ i g e. other i (omega arith) ∙ named-other i (omega arith);
+        },
+      )
     where
       next : (Model.inTarget p (targetBy kind n) o ≡ true) × (objectsFrom p (targetBy kind n) 0 ≡ o ∷ objectsFrom p (targetBy kind n) (suc o))
-      next = next-some text tables p fits kind n 0 (domain-of tables c kind n t h aims) l
+      next = next-some text tables p fits kind n 0 target l
 
       aimed : Model.inTarget p (messageOf text named .target) o ≡ true
       aimed = ap (λ (x : Target). Model.inTarget p x o) target-named ∙ next .0
 
-      row′ : List ℕ
-      row′ = visitRow text tables named o 0
+      known : among (classOn p o .methods) (messageOf text named .method) ≡ true
+      known =
+          subst (λ (m : Message). Model.inTarget p (m .target) o ≡ true → among (classOn p o .methods) (m .method) ≡ true) (sym message-is)
+          (begun-known .message o) aimed
 
-      other : (i : ℕ) → (i ≢ 1) × (i ≢ 2) × (i ≢ 3) × (i ≢ 4) × (16 ≤ i → i < 21 → ⊥) → getD row′ i 0 ≡ getD named i 0
-      other = visit-other text tables p fits named named-length there o 0 l aimed
+      body : Member
+      body = methodFor p (Model.classOf p o) (nameOf text (getD named 7 0))
 
-      is : begunRow text tables q row ≡ row′
+      other : (i : ℕ) → (i ≢ 1) × (i ≢ 2) × (i ≢ 3) × (i ≢ 4) × (16 ≤ i → i < 21 → ⊥) → getD (visitRow text p named o 0) i 0 ≡ getD named i 0
+      other = visit-other text tables p fits named named-length there o 0 l aimed known
+
+      is : firstOf text tables q ≡ on o (body .first) (body .first + body .count)
       is =
-          written-is ∙ ap written (lt-ltb o (objectCount tables) l)
-          ∙ ap (λ (b : Member). objectRow o (b .first) (b .first + b .count) 0 named) (body-at text tables p fits (objectWord tables o 1) (fits .known o l) k (q .name))
-          ∙ ap (λ (w : ℕ). let b = bodyIn text tables (objectWord tables o 1) (nameOf text w) in objectRow o (b .first) (b .first + b .count) 0 named) (sym word7)
+          ap (λ (b : Bool). cond b (firstOn o (bodyAt text tables (objectWord tables o 1) k (q .name))) (past o)) (lt-ltb o (objectCount tables) l)
+          ∙ ap (firstOn o) (body-at text tables p fits (objectWord tables o 1) (fits .known o l) k (q .name)
+          ∙ ap (λ (w : ℕ). bodyIn text tables (objectWord tables o 1) (nameOf text w)) (sym word7)
+          ∙ visit-body text tables p fits named named-length there o 0 l aimed known)
 
       begun-is : Model.begun p message ≡ visit p (messageOf text named) (o ∷ objectsFrom p (messageOf text named .target) (suc o)) 0
       begun-is =
@@ -175,28 +216,38 @@ module _ (text tables : List ℕ) (p : Program) (fits : Fits text tables p) (c k
           ∙ ap (λ (x : Target). o ∷ objectsFrom p x (suc o)) (sym target-named))
           ∙ ap (λ (x : Message). visit p x (o ∷ objectsFrom p (messageOf text named .target) (suc o)) 0) (sym message-is)
 
-  starts-none : objectCount tables ≤ o → Started (begunRow text tables q row)
+  starts-none : o ≡ objectCount tables → Started (firstOf text tables q)
+  unfolding firstOf entered namedRow pastRow
   starts-none l =
-      subst Started (sym (written-is ∙ ap written (le-ltb o (objectCount tables) l))) (record {
-        long = head-length named named-length o 0 0;
-        phase = head-other named named-length o 0 0 0 (omega arith) ∙ word0;
-        run = begun-is ∙ sym (empty-run text tables p fits named named-length there o 0 l);
-        runs = empty-running text tables p fits named named-length there o 0 l;
-        depth = omega (arith, head-depth named named-length o 0 0);
-        head = λ i g e. head-other named named-length o 0 0 i (omega arith) ∙ named-other i (omega arith);
-        tail = λ i g e. head-other named named-length o 0 0 i (omega arith) ∙ named-other i (omega arith);
-      })
+      subst Started (sym is) (
+        tt,
+        record {
+          long = head-length named named-length o 0 0;
+          phase = head-other named named-length o 0 0 0 (omega arith) ∙ word0;
+          run = begun-is ∙ sym (empty-run text tables p fits named named-length there o 0 l);
+          runs = empty-running text tables p fits named named-length there o 0 l;
+          names = begun-known;
+          depth = omega (arith, head-depth named named-length o 0 0);
+          head = λ i g e. head-other named named-length o 0 0 i (omega arith) ∙ named-other i (omega arith);
+          tail = λ i g e. head-other named named-length o 0 0 i (omega arith) ∙ named-other i (omega arith);
+        },
+      )
     where
+      is : firstOf text tables q ≡ past o
+      is = ap (λ (b : Bool). cond b (firstOn o (bodyAt text tables (objectWord tables o 1) k (q .name))) (past o)) (le-ltb o (objectCount tables) (omega arith))
+
       begun-is : Model.begun p message ≡ visit p (messageOf text named) [] 0
       begun-is =
           ap (λ (os : List ℕ). visit p message os 0)
           (visited-is p t ∙ ap (λ (x : Target). objectsFrom p x 0) (sym (target-of tables c kind n t aims))
-          ∙ next-none text tables p fits kind n 0 (domain-of tables c kind n t h aims) l)
+          ∙ next-none text tables p fits kind n 0 target (omega arith))
           ∙ ap (λ (x : Message). visit p x [] 0) (sym message-is)
 
-  pub starts : Starts text tables p row (begunRow text tables (wanted tables kind n c k a) row) (Model.begun p (messageFor p t c k a))
+  -- The message starts somewhere, and the row there is that of its run.
+  pub starts : let q = wanted tables kind n c k a in
+      There (firstOf text tables q) × Starts text tables p row (entered q (firstOf text tables q) row) (Model.begun p (messageFor p t c k a))
   starts = go (decLt o (objectCount tables))
     where
-      go : Dec (o < objectCount tables) → Started (begunRow text tables q row)
+      go : Dec (o < objectCount tables) → Started (firstOf text tables q)
       go (yes l) = starts-some l
-      go (no l) = starts-none (omega arith)
+      go (no l) = starts-none (omega (arith, next-within tables kind n 0 (omega arith)))

@@ -1,21 +1,27 @@
--- The state as tables and eight rows: what a call finds in words that fit, and what it leaves where it writes one row.
+-- The state as tables and eight rows: what a call finds in words that fit, what a slot's phase says, and what a call leaves where it
+-- writes one row.
 use Prim.Native.Nat.{ℕ, zero, suc, _+_, _≤_, _<_}
 use native.Mathlib.Omega.{arith}
 use mathlib.Core.Path.{_≡_, refl, sym, ap, subst, _∙_}
 use mathlib.Core.Logic.{_≢_}
-use mathlib.Core.Bool.{Bool, true, false, not, cond, _&&_, _||_}
+use mathlib.Core.Bool.{Bool, true, false, cond, _&&_}
+use mathlib.Core.Option.{Option, none, some}
 use mathlib.Core.List.{List, [], _∷_}
 use lib.ListN.{length, getD, drop, set, length-set, length-take, length-drop}
 use lib.Seq.{sets, length-sets, getD-set-same, getD-set-other, getD-take, getD-drop, ext-getD}
-use lib.Dec.{eqb, ltb}
-use borrow.Author.Tests.{ltb-false, eqb-true}
+use lib.Dec.{eqb, leb, ltb}
+use borrow.Author.Tests.{ltb-false, leb-true, eqb-true}
 use Rattle.model.specs.Base.{put}
 use Rattle.model.specs.Vector.{Program}
-use Rattle.model.specs.Service.{Slot}
+use Rattle.model.specs.Message.{Run}
+use Rattle.model.specs.Service.{Slot, closed, opened, Transaction, World}
 use Rattle.model.specs.Machine.{service}
 use Rattle.twophase.specs.Base.{at-or, put-same, put-other}
-use Rattle.state.specs.Calls.{mark, stateWords, tablesOf, rowStart, rowOf, withRow, misfitOf}
-use Rattle.refine.specs.Rep.{Fits, SlotRep, Rep}
+use Rattle.theory.specs.ListLaws.{both-left, both-right}
+use Rattle.state.specs.Row.{blank}
+use Rattle.state.specs.Calls.{mark, stateWords, tablesOf, rowStart, rowOf, phaseOf, withRow, isStarted, misfitOf}
+use Rattle.refine.specs.Rep.{Fits, NowRep, OpenRep, SlotRep, Rep}
+use Rattle.refine.specs.Locks.{blank-word}
 
 -- ---- a run of stores
 
@@ -81,8 +87,8 @@ module _ (ws : List ℕ) (long : 26184 ≤ length ws) (s : ℕ) (h : s < 8) (row
   unfolding misfitOf
   with-fit text values values′ e = λ i.
       cond (ltb (length-sets ws (rowStart s) row i) stateWords) 21
-      (cond (not (eqb (word-kept 3 (omega arith) i) (e i)) || ltb 2048 (e i)) 22
-      (cond (eqb (word-kept 5 (omega arith) i) mark && eqb (word-kept 4 (omega arith) i) (length text)) 0 24))
+      (cond (eqb (word-kept 5 (omega arith) i) mark && eqb (word-kept 4 (omega arith) i) (length text) && eqb (word-kept 3 (omega arith) i) (e i)
+      && leb (e i) 2048) 0 24)
 
 -- ---- what fits
 
@@ -94,22 +100,48 @@ pub record Fit (ws values : List ℕ) : Type 0 where
 -- What a call knows where nothing is amiss.
 pub fit-is : (text ws values : List ℕ) → misfitOf text ws values ≡ 0 → Fit ws values
 unfolding misfitOf
-fit-is text ws values e = go (ltb (length ws) stateWords) (eqb (getD ws 3 0) (length values)) (ltb 2048 (length values)) refl refl refl e
+fit-is text ws values e = go (ltb (length ws) stateWords) (isStarted text ws values) refl refl e
   where
-    rest : ℕ
-    rest = cond (eqb (getD ws 5 0) mark && eqb (getD ws 4 0) (length text)) 0 24
+    first : Bool
+    first = eqb (getD ws 5 0) mark && eqb (getD ws 4 0) (length text)
 
-    go : (a b c : Bool) → ltb (length ws) stateWords ≡ a → eqb (getD ws 3 0) (length values) ≡ b → ltb 2048 (length values) ≡ c
-        → cond a 21 (cond (not b || c) 22 rest) ≡ 0 → Fit ws values
-    go true b c x y z q = absurd (omega arith)
-    go false false c x y z q = absurd (omega arith)
-    go false true true x y z q = absurd (omega arith)
-    go false true false x y z q =
+    count : Bool
+    count = eqb (getD ws 3 0) (length values)
+
+    go : (a b : Bool) → ltb (length ws) stateWords ≡ a → isStarted text ws values ≡ b → _≡_ {A = ℕ} (cond a 21 (cond b 0 24)) 0 → Fit ws values
+    go true b x y q = absurd (omega arith)
+    go false false x y q = absurd (omega arith)
+    go false true x y q =
+        let counted = both-right first count (both-left (first && count) (leb (length values) 2048) y) in
         record {
           long = ltb-false (length ws) stateWords x;
-          count = sym (getD-take 8072 ws 3 0 (omega arith) ∙ eqb-true (getD ws 3 0) (length values) y);
-          few = ltb-false 2048 (length values) z;
+          count = sym (getD-take 8072 ws 3 0 (omega arith) ∙ eqb-true (getD ws 3 0) (length values) counted);
+          few = leb-true (length values) 2048 (both-right (first && count) (leb (length values) 2048) y);
         }
+
+-- ---- phases
+
+-- An open slot's phase is not 0.
+pub open-phase : (text tables : List ℕ) (p : Program) (row : List ℕ) (t : Transaction (service p)) → OpenRep text tables p row t → phaseOf row ≢ 0
+open-phase text tables p row t rep = go (t .running) (rep .now)
+  where
+    go : (x : Option Run) → NowRep text tables p row x → phaseOf row ≢ 0
+    go none now = omega arith
+    go (some r) now = let two = now .0 in omega arith
+
+-- A slot's phase is 0 exactly if it is closed in the world.
+module _ (text ws values : List ℕ) (p : Program) (w : World (service p)) (rep : Rep text ws values p w) (t : ℕ) (h : t < 8) where
+  pub phase-closed : phaseOf (rowOf ws t) ≡ 0 → w .slots t ≡ closed
+  phase-closed e = go (w .slots t) (rep .slots t h)
+    where
+      go : (z : Slot (service p)) → SlotRep text (tablesOf ws) p (rowOf ws t) z → z ≡ closed
+      go closed r = refl
+      go (opened x) r = absurd (open-phase text (tablesOf ws) p (rowOf ws t) x r e)
+
+  pub closed-phase : w .slots t ≡ closed → phaseOf (rowOf ws t) ≡ 0
+  closed-phase e =
+      let blanked : rowOf ws t ≡ blank = subst (SlotRep text (tablesOf ws) p (rowOf ws t)) e (rep .slots t h) in
+      ap phaseOf blanked ∙ blank-word 0
 
 -- ---- a slot moved
 

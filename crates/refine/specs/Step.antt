@@ -4,7 +4,6 @@ use native.Mathlib.Omega.{arith}
 use mathlib.Core.Path.{_≡_, refl, ap, ap₂, _∙_}
 use mathlib.Core.Logic.{_≢_}
 use mathlib.Core.Bool.{Bool, true, false, cond, _||_}
-use mathlib.Core.Option.{some}
 use mathlib.Core.List.{List, [], _∷_}
 use lib.ListN.{length, getD}
 use lib.Dec.{eqb, leb, ltb}
@@ -14,7 +13,8 @@ use Rattle.model.specs.Library.{Library}
 use Rattle.model.specs.Vector.{Program}
 use Rattle.model.specs.Message.{idle, look, Activation, Run, Outcome, ends, onward, plusReply, bodyEnds, limited, turn}
 use Rattle.model.specs.Message as Model
-use Rattle.words.specs.View.{objectCount}
+use Rattle.theory.specs.NamedRuns.{NamedRun}
+use Rattle.words.specs.View.{objectCount, statementCount}
 use Rattle.state.specs.Row.{Turn, misfit, stop, back, answer, act, top, carried}
 use Rattle.state.specs.Turn.{objectFrom, nextTurn, lineTurn, endTurn, activationTurn, decided}
 use Rattle.refine.specs.Rep.{Fits, Running, messageOf, activationOf, stackOf, objectsFrom, runOf}
@@ -22,11 +22,11 @@ use Rattle.refine.specs.Objects.{objects-past, next-some, next-none}
 use Rattle.refine.specs.Runs.{between-none}
 use Rattle.refine.specs.Outcomes.{Comes, by, answers, halts, early-on, late-on, turn-is, turn-on}
 use Rattle.refine.specs.Going.{Matches, back-goes}
-use Rattle.refine.specs.Visits.{next-goes}
+use Rattle.refine.specs.Visits.{next-turn, next-goes}
 use Rattle.refine.specs.Statements.{goes-comes}
 
 module _ (text tables : List ℕ) (p : Program) (fits : Fits text tables p) (row values : List ℕ) (size : length row ≡ 2264) (runs : Running tables p row)
-    (long : length values ≡ getD tables 3 0) (few : length values ≤ 2048) where
+    (named : NamedRun p (runOf text p row)) (long : length values ≡ getD tables 3 0) (few : length values ≤ 2048) where
   abbrev r : Run
   r = runOf text p row
 
@@ -79,8 +79,8 @@ module _ (text tables : List ℕ) (p : Program) (fits : Fits text tables p) (row
       unfolding endTurn
       end-is b f =
           let e : o + 1 ≡ suc o = omega arith in
-          ap (λ (i : ℕ). let q = objectFrom tables (getD row 5 0) (getD row 6 0) i in
-          cond (ltb q (objectCount tables)) (nextTurn text tables (getD row 7 0) q sum) (answer sum)) e
+          ap₂ (λ (t : Bool) (i : ℕ). let q = objectFrom tables (getD row 5 0) (getD row 6 0) i in
+          cond t (cond (ltb q (objectCount tables)) (nextTurn text tables (getD row 7 0) q sum) (answer sum)) misfit) (runs .target) e
           ∙ ap endBy f
 
       object-ends : below ≡ [] → Now (endTurn text tables row (act row k 4)) (turn p r values)
@@ -92,18 +92,20 @@ module _ (text tables : List ℕ) (p : Program) (fits : Fits text tables p) (row
 
           next-is : coming < objectCount tables
               → (Model.inTarget p (messageOf text row .target) coming ≡ true) × (later ≡ coming ∷ objectsFrom p (messageOf text row .target) (suc coming))
-          next-is = next-some text tables p fits (getD row 5 0) (getD row 6 0) (suc o) (runs .domain)
+          next-is = next-some text tables p fits (getD row 5 0) (getD row 6 0) (suc o) (runs .target)
 
           go : (b : Bool) → ltb coming (objectCount tables) ≡ b → Now (endTurn text tables row (act row k 4)) (turn p r values)
           go true e =
               let h = ltb-true coming (objectCount tables) e in
               let os = coming ∷ objectsFrom p (messageOf text row .target) (suc coming) in
-              by (end-is true e) (ended os (next-is h .1)) (record {
-                matches = next-goes text tables p fits row size (runs .domain) coming sum h (next-is h .0) values;
+              let aimed = next-is h .0 in
+              let known = named .message coming aimed in
+              by (end-is true e ∙ next-turn text tables p fits row size (runs .target) coming sum h aimed known) (ended os (next-is h .1)) (record {
+                matches = next-goes text tables p fits row size (runs .target) coming sum h aimed known values;
               })
           go false e =
               by (end-is false e)
-              (ended [] (next-none text tables p fits (getD row 5 0) (getD row 6 0) (suc o) (runs .domain) (ltb-false coming (objectCount tables) e)))
+              (ended [] (next-none text tables p fits (getD row 5 0) (getD row 6 0) (suc o) (runs .target) (ltb-false coming (objectCount tables) e)))
               (answers sum)
 
       -- A callee's body has ended: its reply goes back.
@@ -136,22 +138,37 @@ module _ (text tables : List ℕ) (p : Program) (fits : Fits text tables p) (row
 
     active-comes : Now (activationTurn text tables row values) (turn p r values)
     unfolding activationTurn
-    active-comes = by (ap byTop top-is) refl (go (leb end from) refl)
+    active-comes = by (ap byTop top-is ∙ ap (λ (b : Bool). cond b misfit (byEnd (eqb from end))) fitting) refl (go (eqb from end) refl)
       where
         top-is : top row ≡ k
         top-is = omega arith
 
+        late : Bool
+        late = leb 1024 (getD row 2 0 + 1)
+
         byTop : ℕ → Turn
         byTop j =
-            cond (leb (act row j 1) (act row j 0))
-            (cond (eqb j 0) (endTurn text tables row (act row j 4)) (cond (leb 1024 (getD row 2 0 + 1)) stop (back (act row j 4))))
-            (cond (leb 1024 (getD row 2 0 + 1)) stop (lineTurn text tables values (getD row 4 0) (getD row 1 0) (act row j 0) (act row j 2) (act row j 3)))
+            cond (ltb (act row j 1) (act row j 0) || ltb (statementCount tables) (act row j 1)) misfit
+            (cond (eqb (act row j 0) (act row j 1)) (cond (eqb j 0) (endTurn text tables row (act row j 4)) (cond late stop (back (act row j 4))))
+            (cond late stop (lineTurn text tables values o (getD row 1 0) (act row j 0) (act row j 2) (act row j 3))))
 
-        go : (b : Bool) → leb end from ≡ b
-            → Now (cond b (cond (eqb k 0) (endTurn text tables row (act row k 4)) (cond (leb 1024 (getD row 2 0 + 1)) stop (back (act row k 4))))
-            (cond (leb 1024 (getD row 2 0 + 1)) stop (lineTurn text tables values o (getD row 1 0) from (act row k 2) (act row k 3)))) (turn p r values)
-        go true e = ends-comes (leb-true end from e) (eqb k 0) refl
-        go false e = goes-comes text tables p fits row values size runs long few here k deep (leb-false end from e) (leb 1024 (getD row 2 0 + 1)) refl
+        byEnd : Bool → Turn
+        byEnd b =
+            cond b (cond (eqb k 0) (endTurn text tables row (act row k 4)) (cond late stop (back (act row k 4))))
+            (cond late stop (lineTurn text tables values o (getD row 1 0) from (act row k 2) (act row k 3)))
+
+        -- The activation is within the text's statements.
+        fitting : (ltb end from || ltb (statementCount tables) end) ≡ false
+        fitting =
+            let t₁ : ltb end from ≡ false = le-ltb end from (runs .starts k (omega arith)) in
+            let t₂ : ltb (statementCount tables) end ≡ false = le-ltb (statementCount tables) end (runs .ends k (omega arith)) in
+            rw (t₁, t₂) refl
+
+        go : (b : Bool) → eqb from end ≡ b → Now (byEnd b) (turn p r values)
+        go true e = let same = eqb-true from end e in ends-comes (omega arith) (eqb k 0) refl
+        go false e =
+            let ne : from ≢ end = eqb-false from end e in
+            goes-comes text tables p fits row values size runs named long few here k deep (omega (arith, runs .starts k (omega arith))) late refl
 
   -- "With no objects the first step answers 0."
   no-object : objectCount tables ≤ o → turn p r values ≡ ends (getD row 3 0) idle
@@ -160,19 +177,21 @@ module _ (text tables : List ℕ) (p : Program) (fits : Fits text tables p) (row
 
   decided-comes : Now (decided text tables row values) (turn p r values)
   unfolding decided
-  decided-comes = go (leb (objectCount tables) o) refl
+  decided-comes = go (eqb o (objectCount tables)) refl
     where
       on : Turn
-      on = cond (eqb (getD row 1 0) 0 || ltb 8 (getD row 1 0)) misfit (activationTurn text tables row values)
+      on = cond (ltb (objectCount tables) o || eqb (getD row 1 0) 0 || ltb 8 (getD row 1 0)) misfit (activationTurn text tables row values)
 
-      go : (b : Bool) → leb (objectCount tables) o ≡ b → Now (cond b (answer (getD row 3 0)) on) (turn p r values)
-      go true e = by refl (no-object (leb-true (objectCount tables) o e)) (answers (getD row 3 0))
+      go : (b : Bool) → eqb o (objectCount tables) ≡ b → Now (cond b (answer (getD row 3 0)) on) (turn p r values)
+      go true e = let past = eqb-true o (objectCount tables) e in by refl (no-object (omega arith)) (answers (getD row 3 0))
       go false e =
-          let here = leb-false (objectCount tables) o e in
+          let ne : o ≢ objectCount tables = eqb-false o (objectCount tables) e in
+          let here : o < objectCount tables = omega (arith, runs .within) in
           let some = runs .active here in
+          let t₀ : ltb (objectCount tables) o ≡ false = le-ltb (objectCount tables) o (runs .within) in
           let t₁ : eqb (getD row 1 0) 0 ≡ false = ne-eqb (getD row 1 0) 0 (omega arith) in
           let t₂ : ltb 8 (getD row 1 0) ≡ false = le-ltb 8 (getD row 1 0) (runs .depth) in
-          let active : on ≡ activationTurn text tables row values = rw (t₁, t₂) refl in
+          let active : on ≡ activationTurn text tables row values = rw (t₀, t₁, t₂) refl in
           by active refl (active-comes here (getD row 1 0 - 1) (omega arith))
 
   -- The step.

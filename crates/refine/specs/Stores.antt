@@ -52,7 +52,13 @@ module _ (row : List ℕ) (k first end argument : ℕ) where
       ∙ else-word row (at 0) first i (λ e. out (omega arith) (omega arith))
 
   module _ (l : Library) (room : 16 + k * 5 + 5 ≤ length row) where
-    -- It ends where the body does.
+    -- It starts and ends where the body does.
+    pub act-start : act (newAct row k first end argument) k 0 ≡ first
+    unfolding newAct withAct act
+    act-start =
+        else-word four (at 4) 0 (at 0) (omega arith) ∙ else-word three (at 3) 0 (at 0) (omega arith) ∙ else-word two (at 2) argument (at 0) (omega arith)
+        ∙ else-word one (at 1) end (at 0) (omega arith) ∙ new-word row (at 0) first (omega arith)
+
     pub act-end : act (newAct row k first end argument) k 1 ≡ end
     unfolding newAct withAct act
     act-end =
@@ -65,9 +71,6 @@ module _ (row : List ℕ) (k first end argument : ℕ) where
     act-opened =
         let long₂ = length-set one (at 1) end ∙ length-set row (at 0) first in
         let long₃ = length-set two (at 2) argument in
-        activation-is l (newAct row k first end argument) k first end argument 0 0
-        (else-word four (at 4) 0 (at 0) (omega arith) ∙ else-word three (at 3) 0 (at 0) (omega arith) ∙ else-word two (at 2) argument (at 0) (omega arith)
-        ∙ else-word one (at 1) end (at 0) (omega arith) ∙ new-word row (at 0) first (omega arith))
-        act-end
+        activation-is l (newAct row k first end argument) k first end argument 0 0 act-start act-end
         (else-word four (at 4) 0 (at 2) (omega arith) ∙ else-word three (at 3) 0 (at 2) (omega arith) ∙ new-word two (at 2) argument (omega arith))
         (else-word four (at 4) 0 (at 3) (omega arith) ∙ new-word three (at 3) 0 (omega arith)) (new-word four (at 4) 0 (omega (arith, long-four)))

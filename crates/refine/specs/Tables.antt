@@ -3,28 +3,36 @@ use Prim.Native.Nat.{ℕ, zero, suc, _+_, _-_, _%_, _/_, _≤_, _<_}
 use native.Mathlib.Omega.{arith}
 use native.Mathlib.Decide.{decLt}
 use mathlib.Core.Path.{_≡_, refl, sym, ap, ap₂, subst, _∙_, fun-ext}
-use mathlib.Core.Bool.{Bool, true, false, cond, _&&_}
-use mathlib.Core.Option.{none, some}
+use mathlib.Core.Bool.{Bool, true, false, cond, _&&_, _||_}
+use mathlib.Core.Option.{Option, none, some}
 use mathlib.Core.List.{List, [], map}
-use lib.ListN.{length, getD, take, drop, length-take, List·getD-map, List·getD-eq-default}
+use lib.ListN.{length, getD, take, drop, length-take, List·getD-eq-default}
 use lib.Seq.{getD-take, getD-drop}
-use lib.Dec.{eqb, ltb}
+use lib.Dec.{eqb, leb, ltb}
 use lib.Pow.{field}
-use borrow.Author.Tests.{lt-ltb, ltb-true, ltb-false, eqb-true, eqb-false}
+use borrow.Author.Tests.{lt-ltb, lt-leb, ltb-true, ltb-false, eqb-true}
 use Rattle.model.specs.Word.{Name}
-use Rattle.model.specs.Library.{Library, Member, Object, noMember, classAt, member, memberPlace, byFirstParent, statementsOf, bodyOf, methodNames}
+use Rattle.model.specs.Expression.{Expression, valueOf}
+use Rattle.model.specs.Library.{Library, Member, Class, Object, Resolution, noMember, classAt, member, memberPlace, among, byFirstParent, statementsOf, bodyOf, methodNames}
+use Rattle.model.specs.Fault.{strange}
 use Rattle.model.specs.Vector.{Program}
 use Rattle.model.specs.Message.{sizeOf, baseOf, placeOf, valueAt, look}
 use Rattle.model.specs.Message as Model
-use Rattle.theory.specs.Copies.{Copied}
+use Rattle.theory.specs.Copies.{Copied, Resolves, byFirstParent-resolves}
 use Rattle.words.specs.View.{nameOf, classWord, objectWord, classCount, objectCount, statementCount, memberCount, memberAt, membersOf, bit, objectOf, libraryOf}
 use Rattle.words.specs.View as View
 use Rattle.words.specs.Upto.{getD-upto}
-use Rattle.words.specs.Look.{class-count, statement-count, object-count, member-count, class-at}
+use Rattle.words.specs.Look.{class-count, statement-count, object-count, member-count, member-at, class-at}
 use Rattle.theory.specs.ListLaws.{both-left, both-right, map-at}
-use Rattle.theory.specs.Lookup.{past-classes}
-use Rattle.state.specs.Turn.{inTarget, bodyIn, namedAt, bodyAt, valuesAt, fieldIn}
+use Rattle.theory.specs.Lookup.{place-known, name-known, past-classes}
+use Rattle.state.specs.Row.{assign, misfit}
+use Rattle.words.specs.Bodies.{found, bodyIn, namedAt, bodyAt}
+use Rattle.state.specs.Turn.{targetThere, inTarget, valuesAt, fieldIn, valueIn, setTurn}
 use Rattle.refine.specs.Rep.{Fits, between, targetBy}
+
+-- A class's method of that name.
+abbrev pub methodFor : Program → ℕ → Name → Member
+methodFor p c m = member (classAt (p .library) c .methods) m
 
 -- The word of a name without the class that it is from.
 name-word : (text : List ℕ) (w : ℕ) → nameOf text (w % 1048576) ≡ nameOf text w
@@ -50,17 +58,13 @@ module _ (text tables : List ℕ) (p : Program) (fits : Fits text tables p) wher
   -- ---- classes and objects
 
   module _ (c : ℕ) (h : c < classCount tables) where
-    -- A class's fields and methods are those of its words.
-    pub fields-are : classAt (p .library) c .fields ≡ membersOf text tables c 0
-    unfolding View.classOf
-    fields-are = ap (λ (l : Library). classAt l c .fields) (sym (fits .library)) ∙ ap (λ k. k .fields) (class-at text tables c h)
+    -- A class and its methods are those of its words.
+    class-words : classAt (p .library) c ≡ View.classOf text tables c
+    class-words = ap (λ (l : Library). classAt l c) (sym (fits .library)) ∙ class-at text tables c h
 
     pub methods-are : classAt (p .library) c .methods ≡ membersOf text tables c 1
     unfolding View.classOf
-    methods-are = ap (λ (l : Library). classAt l c .methods) (sym (fits .library)) ∙ ap (λ k. k .methods) (class-at text tables c h)
-
-    pub field-total : length (classAt (p .library) c .fields) ≡ memberCount tables c 0
-    field-total = ap length fields-are ∙ member-count text tables c 0
+    methods-are = ap (λ (k : Class). k .methods) class-words
 
     pub method-total : length (classAt (p .library) c .methods) ≡ memberCount tables c 1
     method-total = ap length methods-are ∙ member-count text tables c 1
@@ -86,30 +90,48 @@ module _ (text tables : List ℕ) (p : Program) (fits : Fits text tables p) wher
       ∙ ap (λ (x : Object). x .class) (getD-upto (objectOf text tables) (objectCount tables) o (objectOf text tables o) h)
 
   -- The objects of a target by the words.
-  pub target-is : (kind n o : ℕ) → (2 ≤ kind → n < classCount tables) → o < objectCount tables
+  pub target-is : (kind n o : ℕ) → targetThere tables kind n ≡ true → o < objectCount tables
       → inTarget tables kind n o ≡ Model.inTarget p (targetBy kind n) o
-  unfolding inTarget
-  target-is kind n o there h = go (eqb kind 0) (eqb kind 1) refl refl
+  unfolding inTarget targetThere
+  target-is kind n o there h = go (eqb kind 0) (eqb kind 1) there
     where
       c : ℕ
       c = objectWord tables o 1
 
-      go : (a b : Bool) → eqb kind 0 ≡ a → eqb kind 1 ≡ b → cond a (eqb o n) (cond b (eqb c n) (bit (classWord tables n 5) c))
+      known : leb (classCount tables) c ≡ false
+      known = lt-leb (classCount tables) c (fits .known o h)
+
+      go : (a b : Bool) → cond a (ltb n (objectCount tables)) (leb kind 2 && ltb n (classCount tables)) ≡ true
+          → cond a (eqb o n) (leb (classCount tables) c || cond b (eqb c n) (bit (classWord tables n 5) c))
           ≡ Model.inTarget p (cond a (Model.object n) (cond b (Model.class n) (Model.domain n))) o
-      go true b e f = refl
-      go false true e f = ap (λ (d : ℕ). eqb d n) (sym (class-is o h))
-      go false false e f =
-          let x = eqb-false kind 0 e in
-          let y = eqb-false kind 1 f in
-          fits .domains n c (there (omega (arith, x, y)))
+      go true b e = refl
+      go false true e = rw known (ap (λ (d : ℕ). eqb d n) (sym (class-is o h)))
+      go false false e =
+          rw known (fits .domains n c (ltb-true n (classCount tables) (both-right (leb kind 2) (ltb n (classCount tables)) e))
           ∙ ap (λ (b : Bool). b && Model.inDomain p n c) (lt-ltb c (classCount tables) (fits .known o h))
-          ∙ ap (λ (d : ℕ). Model.inDomain p n d) (sym (class-is o h))
+          ∙ ap (λ (d : ℕ). Model.inDomain p n d) (sym (class-is o h)))
 
   -- ---- bodies
 
-  body-member : (c : ℕ) (m : Name) → bodyIn text tables c m ≡ member (classAt (p .library) (byFirstParent (p .library) c m) .methods) m
+  -- The rule of resolution gives copies.
+  pub resolving : Resolves (p .library) (p .resolve)
+  resolving =
+      subst (Resolves (p .library)) (sym (fits .resolve)) (byFirstParent-resolves (p .library) (λ c j k. go c j k (decLt c (classCount tables))))
+    where
+      go : (c j : ℕ) → j < length (classAt (p .library) c .methods) → Dec (c < classCount tables)
+          → Copied (p .library) (getD (classAt (p .library) c .methods) j noMember)
+      go c j k (yes h) = fits .copies c j h (omega (arith, method-total c h))
+      go c j k (no h) =
+          absurd (omega (arith, ap (λ (x : Class). length (x .methods)) (past-classes (p .library) c (omega (arith, class-total)))))
+
+  -- A class's method of that name is found by the words.
+  pub body-found : (c : ℕ) (m : Name) → among (classAt (p .library) c .methods) m ≡ true → bodyIn text tables c m ≡ some (methodFor p c m)
   unfolding bodyIn
-  body-member c m = ap (λ (l : Library). member (classAt l (byFirstParent l c m) .methods) m) (fits .library)
+  body-found c m e =
+      let there = resolving .copied c m e in
+      ap (λ (l : Library). found (classAt l (byFirstParent l c m) .methods) m) (fits .library)
+      ∙ ap (λ (f : Resolution). found (classAt (p .library) (f c m) .methods) m) (sym (fits .resolve))
+      ∙ ap₂ (λ (b : Bool) (k : Member). cond b (some k) none) (there .0) (there .1)
 
   body-of : (l : Library) (b : Member) → statementsOf l b ≡ between l (b .first) (b .first + b .count)
   unfolding statementsOf between
@@ -117,18 +139,16 @@ module _ (text tables : List ℕ) (p : Program) (fits : Fits text tables p) wher
       let e : b .first + b .count - b .first ≡ b .count = omega arith in
       ap (λ (n : ℕ). map (λ s. s .statement) (take n (drop (b .first) (l .statements)))) (sym e)
 
-  -- A body is the statements from its first up to the one past its last.
-  pub body-is : (c : ℕ) (m : Name)
-      → bodyOf (p .library) (p .resolve) c m ≡ between (p .library) (bodyIn text tables c m .first) (bodyIn text tables c m .first + bodyIn text tables c m .count)
+  -- Its body is the statements from its first up to the one past its last.
+  pub body-is : (c : ℕ) (m : Name) → among (classAt (p .library) c .methods) m ≡ true
+      → bodyOf (p .library) (p .resolve) c m ≡ between (p .library) (methodFor p c m .first) (methodFor p c m .first + methodFor p c m .count)
   unfolding bodyOf
-  body-is c m =
-      ap (λ (f : ℕ → Name → ℕ). statementsOf (p .library) (member (classAt (p .library) (f c m) .methods) m)) (fits .resolve)
-      ∙ ap (statementsOf (p .library)) (sym (body-member c m))
-      ∙ body-of (p .library) (bodyIn text tables c m)
+  body-is c m e = ap (statementsOf (p .library)) (resolving .copied c m e .1) ∙ body-of (p .library) (methodFor p c m)
 
-  member-end : (d : ℕ) (m : Name) → let b = member (classAt (p .library) d .methods) m in b .first + b .count ≤ statementCount tables
+  -- It ends within the statements.
+  pub body-end : (d : ℕ) (m : Name) → methodFor p d m .first + methodFor p d m .count ≤ statementCount tables
   unfolding member
-  member-end d m = go (decLt d (classCount tables)) (decLt j (length ms))
+  body-end d m = go (decLt d (classCount tables)) (decLt j (length ms))
     where
       ms : List Member
       ms = classAt (p .library) d .methods
@@ -144,8 +164,7 @@ module _ (text tables : List ℕ) (p : Program) (fits : Fits text tables p) wher
       go (yes h) (no k) = none-there (List·getD-eq-default ms noMember (omega arith))
       go (no h) k = none-there (ap (λ x. getD (x .methods) j noMember) (past-classes (p .library) d (omega (arith, class-total))))
 
-  -- Class c has the name at its place k: the method there is the one of that name, since a class's names are all different, and it
-  -- is a copy of the one in the class that writes it.
+  -- Class c has the name at its place k: the method there is the one of that name, since a class's names are all different.
   module _ (c : ℕ) (h : c < classCount tables) (k w : ℕ) where
     abbrev x : ℕ
     x = classWord tables c (72 + k)
@@ -163,50 +182,36 @@ module _ (text tables : List ℕ) (p : Program) (fits : Fits text tables p) wher
     module _ (t : namedAt tables c k w ≡ true) where
       there : k < memberCount tables c 1
       unfolding namedAt
-      there = ltb-true k (memberCount tables c 1) (both-left (ltb k (memberCount tables c 1)) (eqb (x % 1048576) w) t)
+      there =
+          ltb-true k (memberCount tables c 1) (both-right (ltb c (classCount tables)) (ltb k (memberCount tables c 1))
+          (both-left (ltb c (classCount tables) && ltb k (memberCount tables c 1)) (eqb (x % 1048576) w) t))
 
       name-at : getD (methodNames (p .library) c) k [] ≡ m
       unfolding namedAt
       name-at =
           method-name c h k there
-          ∙ ap (nameOf text) (eqb-true (x % 1048576) w (both-right (ltb k (memberCount tables c 1)) (eqb (x % 1048576) w) t))
+          ∙ ap (nameOf text) (eqb-true (x % 1048576) w (both-right (ltb c (classCount tables) && ltb k (memberCount tables c 1)) (eqb (x % 1048576) w) t))
 
       found-at : memberPlace ms m ≡ k
       found-at = ap (memberPlace ms) (sym name-at) ∙ fits .distinct c h k (omega (arith, method-total c h, there))
 
-      method-at : (d : Member) → getD ms k d ≡ b
-      unfolding membersOf
-      method-at d = ap (λ (l : List Member). getD l k d) (methods-are c h) ∙ getD-upto (memberAt text tables c 1) (memberCount tables c 1) k d there
+      method-at : getD ms k noMember ≡ b
+      method-at = ap (λ (l : List Member). getD l k noMember) (methods-are c h) ∙ member-at text tables c 1 k there
 
-      writer-is : byFirstParent (p .library) c m ≡ b .origin
-      unfolding byFirstParent
-      writer-is =
-          let d : Member = record { origin = length (p .library .classes); name = []; first = 0; count = 0 } in
-          List·getD-map (λ (z : Member). z .origin) ms (memberPlace ms m) d
-          ∙ ap (λ (z : Member). z .origin) (ap (λ (i : ℕ). getD ms i d) found-at ∙ method-at d)
-
-      name-is : b .name ≡ m
-      name-is = ap (λ (z : Member). z .name) (sym (method-at noMember)) ∙ sym (List·getD-map (λ (z : Member). z .name) ms k noMember) ∙ name-at
-
-      copied : Copied (p .library) b
-      copied = subst (Copied (p .library)) (method-at noMember) (fits .copies c k h there)
-
-      body-there : bodyIn text tables c m ≡ b
+      body-there : bodyIn text tables c m ≡ some b
+      unfolding member
       body-there =
-          body-member c m ∙ ap₂ (λ (d : ℕ) (n : Name). member (classAt (p .library) d .methods) n) writer-is (sym name-is) ∙ copied
+          body-found c m (ap (among ms) (sym name-at) ∙ name-known ms k (omega (arith, method-total c h, there)))
+          ∙ ap {B = Option Member} some (ap (λ (i : ℕ). getD ms i noMember) found-at ∙ method-at)
 
     -- A method's body by its place is the one by its name.
     pub body-at : bodyAt text tables c k w ≡ bodyIn text tables c m
     unfolding bodyAt
     body-at = go (namedAt tables c k w) refl
       where
-        go : (t : Bool) → namedAt tables c k w ≡ t → cond t (memberAt text tables c 1 k) (bodyIn text tables c m) ≡ bodyIn text tables c m
+        go : (t : Bool) → namedAt tables c k w ≡ t → cond t (some (memberAt text tables c 1 k)) (bodyIn text tables c m) ≡ bodyIn text tables c m
         go true t = sym (body-there t)
         go false t = refl
-
-  -- A body ends within the statements.
-  pub body-end : (c : ℕ) (m : Name) → bodyIn text tables c m .first + bodyIn text tables c m .count ≤ statementCount tables
-  body-end c m = subst (λ (b : Member). b .first + b .count ≤ statementCount tables) (sym (body-member c m)) (member-end (byFirstParent (p .library) c m) m)
 
   -- ---- values
 
@@ -223,26 +228,48 @@ module _ (text tables : List ℕ) (p : Program) (fits : Fits text tables p) wher
     abbrev own : ℕ
     own = objectWord tables o 1
 
+    -- The object's class, and its fields.
+    own-class : classAt (p .library) (Model.classOf p o) ≡ View.classOf text tables own
+    own-class = ap (classAt (p .library)) (class-is o h) ∙ class-words own (fits .known o h)
+
+    own-fields : classAt (p .library) (Model.classOf p o) .fields ≡ membersOf text tables own 0
+    unfolding View.classOf
+    own-fields = ap (λ (k : Class). k .fields) own-class
+
     size-is : sizeOf p o ≡ memberCount tables own 0
-    size-is = ap (λ (c : ℕ). length (classAt (p .library) c .fields)) (class-is o h) ∙ field-total own (fits .known o h)
+    size-is = ap length own-fields ∙ member-count text tables own 0
 
     -- An object's values are among all values.
     pub room : objectWord tables o 2 + memberCount tables own 0 ≤ getD tables 3 0
     room = omega (arith, fits .bases o h, size-is, fits .total, ends-before o (objectCount tables) h)
 
     -- The place of a field of the object.
-    pub place-is : (f : Name) → let k = memberPlace (membersOf text tables own 0) f in
+    place-is : (f : Name) → let k = memberPlace (membersOf text tables own 0) f in
         placeOf p o f ≡ cond (ltb k (memberCount tables own 0)) (some (objectWord tables o 2 + k)) none
     unfolding placeOf
     place-is f =
-        let fs : classAt (p .library) (Model.classOf p o) .fields ≡ membersOf text tables own 0 =
-        ap (λ (c : ℕ). classAt (p .library) c .fields) (class-is o h) ∙ fields-are own (fits .known o h) in
-        ap (λ (ms : List Member). cond (ltb (memberPlace ms f) (length ms)) (some (baseOf p o + memberPlace ms f)) none) fs
+        ap (λ (ms : List Member). cond (ltb (memberPlace ms f) (length ms)) (some (baseOf p o + memberPlace ms f)) none) own-fields
         ∙ ap₂ (λ (n b : ℕ). cond (ltb (memberPlace (membersOf text tables own 0) f) n) (some (b + memberPlace (membersOf text tables own 0) f)) none)
         (member-count text tables own 0) (sym (fits .bases o h))
 
+    -- A field that the object's class has, as it is set.
+    pub set-is : (f : Name) → among (classAt (p .library) (Model.classOf p o) .fields) f ≡ true
+        → let i = objectWord tables o 2 + memberPlace (membersOf text tables own 0) f in
+        (placeOf p o f ≡ some i) × (i < getD tables 3 0) × ((v : ℕ) → setTurn text tables own (objectWord tables o 2) f v ≡ assign i v)
+    unfolding setTurn
+    set-is f e =
+        let k = memberPlace (membersOf text tables own 0) f in
+        let size = memberCount tables own 0 in
+        let there : among (membersOf text tables own 0) f ≡ true = ap (λ (ms : List Member). among ms f) (sym own-fields) ∙ e in
+        let inside : k < size = omega (arith, place-known (membersOf text tables own 0) f there, member-count text tables own 0) in
+        let t : ltb k size ≡ true = lt-ltb k size inside in (
+          place-is f ∙ ap (λ (b : Bool). cond b (some (objectWord tables o 2 + k)) none) t,
+          omega (arith, room),
+          λ v. ap (λ (b : Bool). cond b (assign (objectWord tables o 2 + k) v) misfit) t,
+        )
+
     -- A field's value, by name.
-    pub field-is : (values : List ℕ) → fieldIn text tables own (valuesAt tables values o (memberCount tables own 0)) ≡ look p values o
+    field-is : (values : List ℕ) → fieldIn text tables own (valuesAt tables values o (memberCount tables own 0)) ≡ look p values o
     unfolding fieldIn
     field-is values = fun-ext (λ f. go f (ltb (place f) size) refl ∙ ap (valueAt values) (sym (place-is f)))
       where
@@ -261,3 +288,11 @@ module _ (text tables : List ℕ) (p : Program) (fits : Fits text tables p) wher
             rw e (getD-take size (drop base values) (place f) 0 (ltb-true (place f) size e) ∙ getD-drop base values (place f) 0)
         go f false e =
             rw e (List·getD-eq-default (take size (drop base values)) 0 (omega (arith, length-take size (drop base values), ltb-false (place f) size e)))
+
+    -- The value of an expression whose fields the object's class has.
+    pub value-is : (values : List ℕ) (arg got : ℕ) (e : Expression) → strange (classAt (p .library) (Model.classOf p o)) e ≡ false
+        → valueIn text tables own (valuesAt tables values o (memberCount tables own 0)) arg got e ≡ some (valueOf (look p values o) arg got e)
+    unfolding valueIn
+    value-is values arg got e k =
+        let known : strange (View.classOf text tables own) e ≡ false = ap (λ (c : Class). strange c e) (sym own-class) ∙ k in
+        ap₂ (λ (b : Bool) (fields : Name → ℕ). cond b none (some (valueOf fields arg got e))) known (field-is values)

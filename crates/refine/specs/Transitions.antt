@@ -11,17 +11,18 @@ use Rattle.model.specs.Vector.{Program}
 use Rattle.model.specs.Message.{Effect, idle, store, Run, Outcome, goes, ends, stops, turn}
 use Rattle.model.specs.Message as Model
 use Rattle.model.specs.Undo.{Undo, noted, putBack}
-use Rattle.model.specs.Service.{Answer, Slot, closed, opened, Transaction, World, withSlot, newTransaction, undone, after, stepped}
-use Rattle.model.specs.Service as Told
+use Rattle.model.specs.Service.{Answer, done, stopped, Slot, closed, opened, Transaction, World, withSlot, newTransaction, undone, after, stepped}
 use Rattle.model.specs.Machine.{service}
 use Rattle.model.specs.Base.{put}
 use Rattle.words.specs.View.{bit}
 use Rattle.words.specs.Bits.{bit-zero}
 use Rattle.theory.specs.UndoLaws.{back-length}
+use Rattle.theory.specs.NamedRuns.{NamedRun, turn-named}
 use Rattle.state.specs.Row.{Left, noteIf, noteAt, blank, freed, carried}
 use Rattle.state.specs.Turn.{decided}
-use Rattle.state.specs.Calls.{Answered, done, halt, After, tablesOf, rowOf, withRow, toldBy, laid, undoneAt}
-use Rattle.refine.specs.Rep.{runOf, Running, Holds, OpenRep, Rep, told}
+use Rattle.state.specs.Calls.{After, tablesOf, rowOf, phaseOf, withRow, laid, undoneAt}
+use Rattle.refine.specs.Rep.{runOf, NowRep, Holds, OpenRep, Rep}
+use Rattle.refine.specs.Tables.{resolving}
 use Rattle.refine.specs.Runs.{note-same}
 use Rattle.refine.specs.Stores.{else-word, new-word}
 use Rattle.refine.specs.Freeing.{clean-alike, freed-long, freed-blank}
@@ -32,7 +33,7 @@ use Rattle.refine.specs.State.{row-length, Fit, fit-is, moved}
 
 -- What a call leaves follows the model: its answer is the model's, and the words represent the world after.
 abbrev pub Follows : List ℕ → (p : Program) → After → Answer × World (service p) → Type 0
-Follows text p x y = (told (x .answered) ≡ y .0) × Rep text (x .words) (x .values) p (y .1)
+Follows text p x y = (x .answered ≡ y .0) × Rep text (x .words) (x .values) p (y .1)
 
 -- ---- notes
 
@@ -72,7 +73,7 @@ module _ (text ws values : List ℕ) (p : Program) (slots : ℕ → Slot (servic
   -- "begin opens it"
   pub begins : row ≡ blank
       → Follows text p (record { answered = done; words = withRow ws s (set row 0 1); values = values })
-      (Told.done, withSlot (service p) w s (opened (newTransaction (service p))))
+      (done, withSlot (service p) w s (opened (newTransaction (service p))))
   begins e = (
     refl,
     moved text ws values p slots rep s h (set row 0 1) values (length-set row 0 1 ∙ row-size) refl (opened (newTransaction (service p)))
@@ -101,23 +102,23 @@ module _ (text ws values : List ℕ) (p : Program) (slots : ℕ → Slot (servic
         moved text ws values p slots rep s h (freed row) values′ (freed-long row row-size) count closed (freed-blank row row-size (open′ .clean))
 
     -- "Commit frees the slot and leaves the fields."
-    pub commits : Follows text p (record { answered = done; words = withRow ws s (freed row); values = values }) (Told.done, withSlot (service p) w s closed)
+    pub commits : Follows text p (record { answered = done; words = withRow ws s (freed row); values = values }) (done, withSlot (service p) w s closed)
     commits = (refl, frees values refl)
 
     notes-are : noteAt row ≡ t .undo
     notes-are = fun-ext (open′ .undo)
 
     -- "Abort puts back .. and frees the slot."
-    undoes : (said : Answered) (a : Answer) → told said ≡ a
-        → Follows text p (record { answered = said; words = withRow ws s (freed row); values = putBack (noteAt row) values }) (a, undone (service p) w s t)
-    undoes said a e = (
-      e,
+    undoes : (a : Answer)
+        → Follows text p (record { answered = a; words = withRow ws s (freed row); values = putBack (noteAt row) values }) (a, undone (service p) w s t)
+    undoes a = (
+      refl,
       subst (λ (u : Undo). Rep text (withRow ws s (freed row)) (putBack (noteAt row) values) p
           (record { fields = putBack u values; slots = put slots s closed })) notes-are (frees (putBack (noteAt row) values) (back-length (noteAt row) values)),
     )
 
-    pub aborts : Follows text p (undoneAt ws values s) (Told.done, undone (service p) w s t)
-    aborts = undoes done Told.done refl
+    pub aborts : Follows text p (undoneAt ws values s) (done, undone (service p) w s t)
+    aborts = undoes done
 
     -- ---- a step
 
@@ -131,21 +132,22 @@ module _ (text ws values : List ℕ) (p : Program) (slots : ℕ → Slot (servic
         (moved text ws values p slots rep s h row′ values′ size (ap length f ∙ act-length e values)
         (opened (record { locks = t .locks; undo = noted (t .undo) e values; running = r })) o)
 
-    outcome : getD row 0 0 ≡ 2 → (x : Left) (y : Outcome) → Matches text (tablesOf ws) p row values x y → Follows text p (laid ws s x) (stepped (service p) w s t y)
-    outcome two x (goes r e) m = (
-      ap (λ z. told (toldBy z)) (m .said),
+    outcome : phaseOf row ≡ 2 → (x : Left) (y : Outcome) → ((r : Run) (e : Effect) → y ≡ goes r e → NamedRun p r) → Matches text (tablesOf ws) p row values x y
+        → Follows text p (laid ws s x) (stepped (service p) w s t y)
+    outcome two x (goes r e) named m = (
+      m .answered,
       steps-to (x .row) (x .values) e (some r) (m .size) (m .fields)
           (record {
             clean = m .clean (open′ .clean);
             undo = λ k. m .notes k ∙ ap (λ (u : Undo). noted u e values k) notes-are;
             locks = holds-alike text (tablesOf ws) p (rep .fits) row (x .row) (t .locks) (m .locks) (open′ .locks);
-            now = (m .phase ∙ two, m .run, m .runs);
+            now = (m .phase ∙ two, m .run, m .runs, named r e refl);
           }),
     )
-    outcome two x (ends v e) m =
+    outcome two x (ends v e) named m =
         let e′ = m .effect in
         let keep : (i : ℕ) → (i ≡ 0 → ⊥) → getD (x .row) i 0 ≡ getD row i 0 = λ i ne. ap (λ (r : List ℕ). getD r i 0) (m .left) ∙ phased 1 i ne in (
-          ap (λ z. told (toldBy z)) (m .said),
+          m .answered,
           steps-to (x .row) (x .values) e none (ap length (m .left) ∙ length-set row 0 1 ∙ row-size) (m .fields ∙ ap (λ (d : Effect). Model.act d values) (sym e′))
               (record {
                 undo = λ k. note-same row (x .row) (λ i g l. keep i (omega arith)) k ∙ open′ .undo k ∙ ap (λ (d : Effect). noted (t .undo) d values k) (sym e′);
@@ -155,16 +157,18 @@ module _ (text ws values : List ℕ) (p : Program) (slots : ℕ → Slot (servic
                 now = ap (λ (r : List ℕ). getD r 0 0) (m .left) ∙ new-word row 0 1 (omega (arith, row-size));
               }),
         )
-    outcome two x stops m =
-        subst (λ (z : Left). Follows text p (laid ws s z) (Told.stopped, undone (service p) w s t))
-        (sym (λ i. record { said = m .said i; row = m .left i; values = m .fields i }))
-        (undoes halt Told.stopped refl)
+    outcome two x stops named m =
+        subst (λ (z : Left). Follows text p (laid ws s z) (stopped, undone (service p) w s t))
+        (sym (λ i. record { answered = m .answered i; row = m .left i; values = m .fields i }))
+        (undoes stopped)
 
     -- "A step answers "going" or the message's answer."
-    pub steps : (r : Run) → getD row 0 0 ≡ 2 → r ≡ runOf text p row → Running (tablesOf ws) p row
+    pub steps : (r : Run) → NowRep text (tablesOf ws) p row (some r)
         → Follows text p (laid ws s (carried row values (decided text (tablesOf ws) row values))) (stepped (service p) w s t (turn p r values))
-    steps r two e runs =
+    steps r (two, e, runs, named) =
+        let known : NamedRun p (runOf text p row) = subst (NamedRun p) e named in
         subst (λ (z : Run). Follows text p (laid ws s (carried row values (decided text (tablesOf ws) row values)))
         (stepped (service p) w s t (turn p z values))) (sym e)
         (outcome two (carried row values (decided text (tablesOf ws) row values)) (turn p (runOf text p row) values)
-        (step-matches text (tablesOf ws) p (rep .fits) row values row-size runs (fit .count) (fit .few)))
+        (turn-named p (rep .fits .names) (resolving text (tablesOf ws) p (rep .fits)) (runOf text p row) values known)
+        (step-matches text (tablesOf ws) p (rep .fits) row values row-size runs known (fit .count) (fit .few)))

@@ -1,27 +1,29 @@
 -- A message on an object: its first activation there, as a message starts or goes on to its next object; and a message that
 -- has no object.
-use Prim.Native.Nat.{ℕ, suc, _+_, _≤_, _<_}
+use Prim.Native.Nat.{ℕ, zero, suc, _+_, _*_, _≤_, _<_}
 use native.Mathlib.Omega.{arith}
-use mathlib.Core.Path.{_≡_, refl, sym, ap, ap₂, subst, _∙_}
+use mathlib.Core.Path.{_≡_, refl, sym, ap, ap₂, _∙_}
 use mathlib.Core.Logic.{_≢_}
 use mathlib.Core.Bool.{true}
+use mathlib.Core.Option.{some}
 use mathlib.Core.List.{List, [], _∷_}
 use lib.ListN.{length, getD, set, length-set}
 use Rattle.model.specs.Form.{Statement}
-use Rattle.model.specs.Library.{Member, bodyOf}
+use Rattle.model.specs.Library.{Member, among}
 use Rattle.model.specs.Vector.{Program}
 use Rattle.model.specs.Message.{Message, idle, Activation, opened, visit}
 use Rattle.model.specs.Message as Model
-use Rattle.words.specs.View.{nameOf, objectWord, classCount, objectCount, statementCount}
-use Rattle.twophase.specs.Base.{at-or}
-use Rattle.state.specs.Row.{act, objectRow, goingTo}
-use Rattle.state.specs.Turn.{bodyIn}
-use Rattle.refine.specs.Rep.{Fits, Running, targetBy, messageOf, between, stackOf, objectsFrom, runOf}
-use Rattle.refine.specs.Tables.{class-is, body-is, body-end}
+use Rattle.words.specs.View.{nameOf, objectWord, objectCount}
+use Rattle.theory.specs.NamedRuns.{classOn}
+use Rattle.state.specs.Row.{next, objectRow, goingTo}
+use Rattle.words.specs.Bodies.{bodyIn}
+use Rattle.state.specs.Turn.{targetThere, nextOn, nextTurn}
+use Rattle.refine.specs.Rep.{Fits, Running, targetBy, messageOf, stackOf, objectsFrom, runOf}
+use Rattle.refine.specs.Tables.{methodFor, class-is, body-found, body-is, body-end}
 use Rattle.refine.specs.Objects.{objects-here, objects-past}
 use Rattle.refine.specs.Runs.{message-same, note-same, run-is}
-use Rattle.refine.specs.Stores.{else-word, new-word, act-length, act-other, act-opened, act-end}
-use Rattle.refine.specs.Going.{Goes}
+use Rattle.refine.specs.Stores.{else-word, new-word, act-length, act-other, act-opened, act-start, act-end}
+use Rattle.refine.specs.Going.{Goes, Inside}
 use Rattle.refine.specs.Freeing.{clean-alike}
 
 -- The row with its head words on object o, with d activations.
@@ -29,9 +31,9 @@ abbrev pub headRow : List ℕ → ℕ → ℕ → ℕ → List ℕ
 headRow row o sum d = set (set (set (set row 4 o) 1 d) 2 0) 3 sum
 
 -- The row on object o, which runs its own class's method of the name sent.
-abbrev pub visitRow : List ℕ → List ℕ → List ℕ → ℕ → ℕ → List ℕ
-visitRow text tables row o sum =
-    let b = bodyIn text tables (objectWord tables o 1) (nameOf text (getD row 7 0)) in
+abbrev pub visitRow : List ℕ → Program → List ℕ → ℕ → ℕ → List ℕ
+visitRow text p row o sum =
+    let b = methodFor p (Model.classOf p o) (nameOf text (getD row 7 0)) in
     objectRow o (b .first) (b .first + b .count) sum row
 
 module _ (row : List ℕ) (size : length row ≡ 2264) (o sum d : ℕ) where
@@ -66,13 +68,13 @@ module _ (row : List ℕ) (size : length row ≡ 2264) (o sum d : ℕ) where
   head-object = else-word row₃ 3 sum 4 (omega arith) ∙ else-word row₂ 2 0 4 (omega arith) ∙ else-word row₁ 1 d 4 (omega arith) ∙ new-word row 4 o (omega arith)
 
 module _ (text tables : List ℕ) (p : Program) (fits : Fits text tables p) (row : List ℕ) (size : length row ≡ 2264)
-    (there : 2 ≤ getD row 5 0 → getD row 6 0 < classCount tables) (o sum : ℕ) where
+    (there : targetThere tables (getD row 5 0) (getD row 6 0) ≡ true) (o sum : ℕ) where
   abbrev m : Message
   m = messageOf text row
 
   -- ---- past the last object: nothing is left to visit
 
-  module _ (past : objectCount tables ≤ o) where
+  module _ (past : o ≡ objectCount tables) where
     abbrev emptied : List ℕ
     emptied = headRow row o sum 0
 
@@ -92,20 +94,19 @@ module _ (text tables : List ℕ) (p : Program) (fits : Fits text tables p) (row
         let w6 = head-other row size o sum 0 6 (omega arith) in
         record {
           depth = omega arith;
+          within = omega arith;
           active = λ h. absurd (omega arith);
           visiting = λ h. absurd (omega arith);
+          starts = λ j h. absurd (omega arith);
           ends = λ j h. absurd (omega arith);
-          domain = λ h. omega (arith, there (omega arith));
+          target = ap₂ (targetThere tables) w5 w6 ∙ there;
         }
 
   -- ---- on an object of the target
 
-  module _ (here : o < objectCount tables) (aimed : Model.inTarget p (m .target) o ≡ true) where
-    abbrev c : ℕ
-    c = objectWord tables o 1
-
+  module _ (here : o < objectCount tables) (aimed : Model.inTarget p (m .target) o ≡ true) (known : among (classOn p o .methods) (m .method) ≡ true) where
     abbrev body : Member
-    body = bodyIn text tables c (m .method)
+    body = methodFor p (Model.classOf p o) (m .method)
 
     abbrev first : ℕ
     first = body .first
@@ -114,7 +115,7 @@ module _ (text tables : List ℕ) (p : Program) (fits : Fits text tables p) (row
     end = first + body .count
 
     abbrev on : List ℕ
-    on = visitRow text tables row o sum
+    on = visitRow text p row o sum
 
     abbrev head : List ℕ
     head = headRow row o sum 1
@@ -133,8 +134,11 @@ module _ (text tables : List ℕ) (p : Program) (fits : Fits text tables p) (row
     pub visit-other : (i : ℕ) → (i ≢ 1) × (i ≢ 2) × (i ≢ 3) × (i ≢ 4) × (16 ≤ i → i < 21 → ⊥) → getD on i 0 ≡ getD row i 0
     visit-other i n = behind i (n .4) ∙ head-other row size o sum 1 i (n .0, n .1, n .2, n .3)
 
-    body-here : bodyOf (p .library) (p .resolve) (Model.classOf p o) (m .method) ≡ between (p .library) first end
-    body-here = ap (λ (d : ℕ). bodyOf (p .library) (p .resolve) d (m .method)) (class-is text tables p fits o here) ∙ body-is text tables p fits c (m .method)
+    -- The words find that method.
+    pub visit-body : bodyIn text tables (objectWord tables o 1) (m .method) ≡ some body
+    visit-body =
+        ap (λ (c : ℕ). bodyIn text tables c (m .method)) (sym (class-is text tables p fits o here))
+        ∙ body-found text tables p fits (Model.classOf p o) (m .method) known
 
     abbrev os : List ℕ
     os = o ∷ objectsFrom p (m .target) (suc o)
@@ -144,7 +148,7 @@ module _ (text tables : List ℕ) (p : Program) (fits : Fits text tables p) (row
     stack =
         ap {B = List Activation} (λ a. a ∷ [])
         (act-opened head 0 first end argument (p .library) (omega (arith, head-length row size o sum 1))
-        ∙ ap (λ (ss : List Statement). opened ss argument) (sym body-here))
+        ∙ ap (λ (ss : List Statement). opened ss argument) (sym (body-is text tables p fits (Model.classOf p o) (m .method) known)))
 
     pub visit-depth : getD on 1 0 ≡ 1
     visit-depth = behind 1 (omega arith) ∙ head-depth row size o sum 1
@@ -161,11 +165,16 @@ module _ (text tables : List ℕ) (p : Program) (fits : Fits text tables p) (row
         (ap (stackOf (p .library) on) visit-depth ∙ stack)
         (behind 2 (omega arith) ∙ head-steps row size o sum 1) (behind 3 (omega arith) ∙ head-sum row size o sum 1)
 
-    inside : act on 0 1 ≤ statementCount tables
+    inside : Inside tables on 0
     unfolding objectRow
     inside =
-        subst (λ (z : ℕ). z ≤ statementCount tables) (sym (act-end head 0 first end argument (p .library) (omega (arith, head-length row size o sum 1))))
-        (body-end text tables p fits c (m .method))
+        let room : 16 + 0 * 5 + 5 ≤ length head = omega (arith, head-length row size o sum 1) in
+        omega (
+          arith,
+          act-start head 0 first end argument (p .library) room,
+          act-end head 0 first end argument (p .library) room,
+          body-end text tables p fits (Model.classOf p o) (m .method),
+        )
 
     pub visit-running : Running tables p on
     visit-running =
@@ -175,17 +184,26 @@ module _ (text tables : List ℕ) (p : Program) (fits : Fits text tables p) (row
         let w6 = visit-other 6 (omega arith) in
         record {
           depth = omega arith;
+          within = omega arith;
           active = λ h. omega arith;
           visiting = λ h. ap₂ (Model.inTarget p) (ap₂ targetBy w5 w6) w4 ∙ aimed;
-          ends = λ j h. at-or (λ (i : ℕ). i < 1 → act on i 1 ≤ statementCount tables) 0 (λ z. inside) (λ i ne z. absurd (ne (omega arith))) j (omega arith);
-          domain = λ h. omega (arith, there (omega arith));
+          starts = λ j h. only j (omega arith) .0;
+          ends = λ j h. only j (omega arith) .1;
+          target = ap₂ (targetThere tables) w5 w6 ∙ there;
         }
+      where
+        only : (j : ℕ) → j < 1 → Inside tables on j
+        only zero z = inside
+        only (suc j) z = absurd (omega arith)
 
     -- The turn to a next object.
+    pub next-turn : nextTurn text tables (getD row 7 0) o sum ≡ next o first end sum
+    next-turn = ap (nextOn o sum) visit-body
+
     pub next-goes : (values : List ℕ) → Goes text tables p row values (goingTo on values) (visit p m os sum) idle
     next-goes values =
         record {
-          said = refl;
+          answered = refl;
           fields = refl;
           size = visit-length;
           phase = visit-other 0 (omega arith);

@@ -2,6 +2,7 @@
 use Prim.Native.Nat.{ℕ}
 use mathlib.Core.Path.{_≡_}
 use mathlib.Core.List.{List}
+use Rattle.model.specs.Service as Model
 use Rattle.state.specs.Row as State
 use Rattle.state.specs.Row.{Left}
 use Rattle.rows.specs.declared.Turn.{Turn}
@@ -20,14 +21,14 @@ saidTurn (Back v) = State.back v
 saidTurn (Next o first end sum) = State.next o first end sum
 saidTurn (Answer v) = State.answer v
 
-abbrev pub said : Said → State.Said
-said Unfit = State.unfit
-said Going = State.going
-said Halted = State.halted
-said (Answered v) = State.answered v
+abbrev pub said : Said → Model.Answer
+said Unfit = Model.refuse 24
+said Going = Model.going
+said Halted = Model.stopped
+said (Answered v) = Model.answer v
 
 -- The answer, the row and the values after a turn are those of the definition.
 pub record Leaves (x : Left) (r : Said) (row values : List ℕ) : Type 0 where
-  pub says : said r ≡ x .said
+  pub says : said r ≡ x .answered
   pub row-is : row ≡ x .row
   pub values-are : values ≡ x .values

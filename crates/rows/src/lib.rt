@@ -2,7 +2,7 @@
 // crates/state/specs/Row.antt.
 ghost use Prim.Native.Nat.{_-_};
 ghost use mathlib.Core.Path.{_≡_};
-ghost use lib.ListN.{length};
+ghost use lib.ListN.{length, set};
 ghost use Rattle.state.specs.Row.{act, top, withAct, newAct, stepped, passed, skipRow, callRow, replyRow, backRow, objectRow, carried, assign, stop};
 ghost use Rattle.rows.specs.Carried.{saidTurn, Leaves};
 
@@ -48,7 +48,7 @@ pub fn top(row: &[u32]) -> u32
     if depth == 0 { 0 } else { depth - 1 }
 }
 
-// A new activation: its first statement, the one past its last, and its argument.
+// Opens a new activation: its first statement, the one past its last, and its argument.
 fn new_act(row: &mut [u32], activation: u32, first: u32, end: u32, argument: u32)
     ensures { λ _. ⌜ now (row .exit) ≡ newAct (now (row .entry)) activation first end argument ⌝ }
 {
@@ -59,15 +59,15 @@ fn new_act(row: &mut [u32], activation: u32, first: u32, end: u32, argument: u32
     put_act(row, activation, 4, 0);
 }
 
-// One step more on this object.
+// Counts one step more on this object, in 64 bits; the word holds it modulo 2^32.
 fn count_step(row: &mut [u32])
     ensures { λ _. ⌜ now (row .exit) ≡ stepped (now (row .entry)) ⌝ }
 {
-    let steps = words::get(row, 2);
-    words::put(row, 2, std::num::wrapping_add_u32(steps, 1));
+    let steps = words::get(row, 2) as u64 + 1;
+    words::put(row, 2, (steps % 4294967296) as u32);
 }
 
-// The latest activation goes on to its next statement.
+// Takes the latest activation on to its next statement.
 fn pass(row: &mut [u32])
     ensures { λ _. ⌜ now (row .exit) ≡ passed (now (row .entry)) ⌝ }
 {
@@ -76,7 +76,7 @@ fn pass(row: &mut [u32])
     put_act(row, activation, 0, std::num::wrapping_add_u32(next, 1));
 }
 
-// A statement is passed over.
+// Passes over a statement.
 fn skip(row: &mut [u32])
     ensures { λ _. ⌜ now (row .exit) ≡ skipRow (now (row .entry)) ⌝ }
 {
@@ -84,7 +84,7 @@ fn skip(row: &mut [u32])
     count_step(row);
 }
 
-// The body's reply; the body is at its end.
+// Notes the body's reply, and puts the body at its end.
 fn reply(row: &mut [u32], value: u32)
     ensures { λ _. ⌜ now (row .exit) ≡ replyRow value (now (row .entry)) ⌝ }
 {
@@ -102,7 +102,7 @@ fn less(number: u32, by: u32) -> u32
     if by <= number { number - by } else { 0 }
 }
 
-// The latest activation ends, and its reply is the caller's `got`.
+// Ends the latest activation; its reply is the caller's `got`.
 fn back(row: &mut [u32], value: u32)
     ensures { λ _. ⌜ now (row .exit) ≡ backRow value (now (row .entry)) ⌝ }
 {
@@ -112,7 +112,7 @@ fn back(row: &mut [u32], value: u32)
     count_step(row);
 }
 
-// The message on an object, in the first activation of its method there.
+// Puts the message on an object, in the first activation of its method there.
 pub fn enter_object(row: &mut [u32], object: u32, first: u32, end: u32, sum: u32)
     ensures { λ _. ⌜ now (row .exit) ≡ objectRow object first end sum (now (row .entry)) ⌝ }
 {
@@ -124,7 +124,7 @@ pub fn enter_object(row: &mut [u32], object: u32, first: u32, end: u32, sum: u32
     new_act(row, 0, first, end, argument);
 }
 
-// A self-call: the caller goes on behind it, and the callee's activation is the latest.
+// Makes a self-call: the caller goes on behind it, and the callee's activation is the latest.
 fn call(row: &mut [u32], first: u32, end: u32, argument: u32)
     ensures { λ _. ⌜ now (row .exit) ≡ callRow first end argument (now (row .entry)) ⌝ }
 {
@@ -136,7 +136,7 @@ fn call(row: &mut [u32], first: u32, end: u32, argument: u32)
     count_step(row);
 }
 
-// A value is set, its old value noted first.
+// Sets a value, its old value noted first.
 fn assign(row: &mut [u32], values: &mut [u32], place: usize, value: u32)
     ensures { λ _. ⌜ Leaves (carried (now (row .entry)) (now (values .entry)) (assign place value)) Said.Going (now (row .exit)) (now (values .exit)) ⌝ }
 {
@@ -146,13 +146,20 @@ fn assign(row: &mut [u32], values: &mut [u32], place: usize, value: u32)
     skip(row);
 }
 
-// The transaction undone: its values put back and its row blank.
+// Undoes the transaction: puts its values back and frees its row.
 fn stop(row: &mut [u32], values: &mut [u32])
     requires { ⌜ length (now row) ≡ 2264 ⌝ }
     ensures { λ _. ⌜ Leaves (carried (now (row .entry)) (now (values .entry)) stop) Said.Halted (now (row .exit)) (now (values .exit)) ⌝ }
 {
     undo::put_back(row, values);
     undo::clear(row);
+}
+
+// Ends the message: the slot stays open, with its locks and notes.
+fn finish(row: &mut [u32])
+    ensures { λ _. ⌜ now (row .exit) ≡ set (now (row .entry)) 0 1 ⌝ }
+{
+    words::put(row, 0, 1);
 }
 
 // Carries a turn out, on the slot's row and the values.
@@ -191,7 +198,7 @@ pub fn carry(row: &mut [u32], values: &mut [u32], turn: Turn) -> Said
             Said::Going
         }
         Turn::Answer(value) => {
-            words::put(row, 0, 1);
+            finish(row);
             Said::Answered(value)
         }
     }

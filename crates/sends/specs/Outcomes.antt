@@ -8,7 +8,8 @@ use lib.ListN.{length, take, drop}
 use lib.Seq.{take-all, drop-length}
 use lib.Dec.{eqb, ltb}
 use borrow.Author.Tests.{eq-eqb, ne-eqb, lt-ltb, le-ltb}
-use Rattle.state.specs.Calls.{After, done, held, refused}
+use Rattle.model.specs.Service.{done, held}
+use Rattle.state.specs.Calls.{After, refused}
 use Rattle.slots.specs.declared.Outcome.{Outcome}
 use Rattle.slots.specs.declared.Outcome.the-variants.{Done, Refused, Held}
 use Rattle.slots.specs.Told.{told, Leaves}

@@ -7,7 +7,7 @@ ghost use Rattle.state.specs.Calls.{stateWords, inTheWay};
 ghost use Rattle.locks.specs.Asked.{asked};
 ghost use Rattle.slots.specs.Lent.{Within};
 ghost use Rattle.sends.specs.Way.{gathered, besides};
-ghost use Rattle.sends.specs.Sent.{heldUpto, holding, targetWord};
+ghost use Rattle.sends.specs.Holders.{heldUpto, holding, targetWord};
 
 // What the eight slots hold at a word of their rows, or on the class with its objects.
 pub(crate) fn held_by_all(state: &[u32], word: usize, class: u32) -> u32
@@ -25,7 +25,20 @@ pub(crate) fn held_by_all(state: &[u32], word: usize, class: u32) -> u32
     held
 }
 
-// The slots that hold one of these methods at a word of their rows, or on the class with its objects, as a mask.
+// The slot is open and holds one of these methods at a word of its row, or on the class with its objects.
+fn is_holder(state: &[u32], slot: u32, word: usize, class: u32, methods: u32) -> bool
+    requires { ⌜ Within (now state) slot ⌝ }
+    ensures { λ r. ⌜ r ≡ holding (now (state .entry)) word class methods slot ⌝ }
+{
+    if slots::phase_of(state, slot) == 0 {
+        return false;
+    }
+    let start = 8072 + slot as usize * 2264;
+    let end = start + 2264;
+    locks::holds(&state[start..end], word, class, methods)
+}
+
+// The slots that are such holders, as a mask.
 fn holders(state: &[u32], word: usize, class: u32, methods: u32) -> u32
     requires { ⌜ stateWords ≤ length (now state) ⌝ }
     ensures { λ r. ⌜ r ≡ gathered (holding (now (state .entry)) word class methods) 8 ⌝ }
@@ -33,9 +46,7 @@ fn holders(state: &[u32], word: usize, class: u32, methods: u32) -> u32
     let mut mask = 0;
     let mut slot = 0u32;
     while slot < 8 {
-        let start = 8072 + slot as usize * 2264;
-        let end = start + 2264;
-        if locks::holds(&state[start..end], word, class, methods) {
+        if is_holder(state, slot, word, class, methods) {
             mask = mask | (1u32 << slot);
         }
         slot += 1;
@@ -49,9 +60,7 @@ fn other_holders(state: &[u32], slot: u32, word: usize, class: u32, methods: u32
     ensures { λ r. ⌜ r ≡ gathered (besides slot (holding (now (state .entry)) word class methods)) 8 ⌝ }
 {
     let mask = holders(state, word, class, methods);
-    let start = 8072 + slot as usize * 2264;
-    let end = start + 2264;
-    if locks::holds(&state[start..end], word, class, methods) {
+    if is_holder(state, slot, word, class, methods) {
         mask - (1u32 << slot)
     } else {
         mask
@@ -79,12 +88,15 @@ fn target_clashing(text: &[u8], state: &[u32], slot: u32, wanted: Wanted) -> u32
     other_holders(state, slot, word, wanted.class, methods)
 }
 
-// Another slot's locks are in the way of a send to a domain.
+// Another slot is open, and its locks are in the way of a send to a domain.
 fn is_in_the_way(text: &[u8], state: &[u32], slot: u32, wanted: Wanted, other: u32) -> bool
     requires { ⌜ Within (now state) other × (2 ≤ wanted .kind) ⌝ }
     ensures { λ r. ⌜ r ≡ inTheWay (now (text .entry)) (now (state .entry)) slot (asked wanted) other ⌝ }
 {
     if other == slot {
+        return false;
+    }
+    if slots::phase_of(state, other) == 0 {
         return false;
     }
     let start = 8072 + other as usize * 2264;

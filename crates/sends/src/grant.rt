@@ -11,15 +11,18 @@ ghost use mathlib.Core.List.{List};
 ghost use lib.ListN.{length};
 ghost use Rattle.model.specs.Base.{least};
 ghost use Rattle.words.specs.View.{classCount};
-ghost use Rattle.state.specs.Request.{domainLock, locked, begunRow};
+ghost use Rattle.state.specs.Request.{domainLock, locked, firstOf, entered};
 ghost use Rattle.state.specs.Calls.{stateWords, tablesOf, rowOf, withRow, inTheWay, grantedOr};
 ghost use Rattle.locks.specs.Asked.{asked};
+ghost use Rattle.locks.specs.Begun.{saidFirst};
 ghost use Rattle.slots.specs.Told.{Leaves};
 ghost use Rattle.slots.specs.Lent.{Within};
 ghost use Rattle.sends.specs.Outcomes.{outcomeOf};
-ghost use Rattle.sends.specs.Sent.{ToObject, lockedBelow, startsAtOnce};
+ghost use Rattle.sends.specs.Sent.{ToObject};
+ghost use Rattle.sends.specs.Holders.{startsAtOnce};
+ghost use Rattle.sends.specs.Granted.{lockedBelow};
 
-// A domain's lock on one class, by that class's own method of the name; none where the send does not lock it.
+// Takes a domain's lock on one class, by that class's own method of the name; none where the send does not lock it.
 fn lock_class(text: &[u8], state: &mut [u32], slot: u32, wanted: Wanted, class: u32)
     requires { ⌜ Within (now state) slot ⌝ }
     ensures { λ _. ⌜ now (state .exit) ≡ withRow (now (state .entry)) slot (domainLock (now (text .entry)) (tablesOf (now (state .entry))) (asked wanted) (rowOf (now (state .entry)) slot) class) ⌝ }
@@ -33,7 +36,7 @@ fn lock_class(text: &[u8], state: &mut [u32], slot: u32, wanted: Wanted, class: 
     locks::add_lock(&mut state[start..end], 136 + class as usize, bits);
 }
 
-// The locks of a send to a domain.
+// Takes the locks of a send to a domain.
 fn lock_domain(text: &[u8], state: &mut [u32], slot: u32, wanted: Wanted)
     requires { ⌜ Within (now state) slot ⌝ }
     ensures { λ _. ⌜ now (state .exit) ≡ withRow (now (state .entry)) slot (lockedBelow (now (text .entry)) (tablesOf (now (state .entry))) (asked wanted)
@@ -47,7 +50,7 @@ fn lock_domain(text: &[u8], state: &mut [u32], slot: u32, wanted: Wanted)
     }
 }
 
-// The locks of a send, in its slot's row.
+// Takes the locks of a send, in its slot's row.
 fn lock(text: &[u8], state: &mut [u32], slot: u32, wanted: Wanted)
     requires { ⌜ Within (now state) slot × (wanted .place < 32) ⌝ }
     ensures { λ _. ⌜ now (state .exit) ≡ withRow (now (state .entry)) slot (locked (now (text .entry)) (tablesOf (now (state .entry))) (asked wanted) (rowOf (now (state .entry)) slot)) ⌝ }
@@ -61,19 +64,18 @@ fn lock(text: &[u8], state: &mut [u32], slot: u32, wanted: Wanted)
     locks::lock_target(&mut state[start..end], wanted);
 }
 
-// The send's message at its start, in its slot's row.
-fn start_message(text: &[u8], state: &mut [u32], slot: u32, wanted: Wanted)
+// Puts the send's message at its start, in its slot's row.
+fn start_message(state: &mut [u32], slot: u32, wanted: Wanted, first: First)
     requires { ⌜ Within (now state) slot ⌝ }
-    ensures { λ _. ⌜ now (state .exit) ≡ withRow (now (state .entry)) slot (begunRow (now (text .entry)) (tablesOf (now (state .entry))) (asked wanted) (rowOf (now (state .entry)) slot)) ⌝ }
+    ensures { λ _. ⌜ now (state .exit) ≡ withRow (now (state .entry)) slot (entered (asked wanted) (saidFirst first) (rowOf (now (state .entry)) slot)) ⌝ }
 {
     let start = 8072 + slot as usize * 2264;
     let end = start + 2264;
-    let first = locks::first_object(text, &state[0..8072], wanted);
     locks::enter(&mut state[start..end], wanted, first);
 }
 
-// The number of a send: 40 and the lowest slot in its way; 0 where none is, and then it has its locks and its message is at its
-// start.
+// Grants a send: takes its locks and puts its message at its start. The number is 0; 40 and the lowest slot in its way, or 24
+// where its message starts nowhere, and then nothing is altered.
 pub(crate) fn grant(text: &[u8], state: &mut [u32], slot: u32, wanted: Wanted) -> u32
     requires { ⌜ Within (now state) slot × (wanted .place < 32) ⌝ }
     ensures { λ r. ⌜ ((values : List ℕ) → Leaves (grantedOr (now (text .entry)) (now (state .entry)) values slot (asked wanted)
@@ -83,8 +85,12 @@ pub(crate) fn grant(text: &[u8], state: &mut [u32], slot: u32, wanted: Wanted) -
     if mask != 0 {
         return 40 + u32::trailing_zeros(mask);
     }
+    let first = locks::first_object(text, &state[0..8072], wanted);
+    if let First::Nowhere = first {
+        return 24;
+    }
     lock(text, state, slot, wanted);
-    start_message(text, state, slot, wanted);
+    start_message(state, slot, wanted, first);
     0
 }
 
@@ -98,16 +104,16 @@ fn starts_at_once(state: &[u32], wanted: Wanted) -> bool
     if held_by_all(state, word, wanted.class) & methods != 0 {
         return false;
     }
-    turns::body::named_at(&state[0..8072], wanted.class, wanted.place, wanted.name)
+    words::body::named_at(&state[0..8072], wanted.class, wanted.place, wanted.name)
 }
 
-// The locks of such a send, and its message at its start, in its slot's row.
+// Takes the locks of such a send, and puts its message at its start, in its slot's row.
 fn take_object(state: &mut [u32], slot: u32, wanted: Wanted)
     requires { ⌜ Within (now state) slot × ToObject (tablesOf (now state)) (asked wanted) × (startsAtOnce (now state) (asked wanted) ≡ true) ⌝ }
-    ensures { λ _. ⌜ ((text : List ℕ) → now (state .exit) ≡ withRow (now (state .entry)) slot (begunRow text (tablesOf (now (state .entry))) (asked wanted)
+    ensures { λ _. ⌜ ((text : List ℕ) → now (state .exit) ≡ withRow (now (state .entry)) slot (entered (asked wanted) (firstOf text (tablesOf (now (state .entry))) (asked wanted))
         (locked text (tablesOf (now (state .entry))) (asked wanted) (rowOf (now (state .entry)) slot)))) ⌝ }
 {
-    let body = turns::body::body_of(&state[0..8072], wanted.class, wanted.place);
+    let body = words::body::body_of(&state[0..8072], wanted.class, wanted.place);
     let start = 8072 + slot as usize * 2264;
     let end = start + 2264;
     let row = &mut state[start..end];
@@ -117,8 +123,8 @@ fn take_object(state: &mut [u32], slot: u32, wanted: Wanted)
     locks::enter(row, wanted, First::On(wanted.number, body.first, body.end));
 }
 
-// The number of a send to an object. Most start at once; the others go the way of every send, with copies of what is lent, so
-// that nothing of it need be in memory for those.
+// Grants a send to an object. Most start at once; the others go the way of every send, with parts of what is lent, so that
+// nothing of it need be in memory for those.
 pub(crate) fn grant_object(text: &[u8], state: &mut [u32], slot: u32, wanted: Wanted) -> u32
     requires { ⌜ Within (now state) slot × ToObject (tablesOf (now state)) (asked wanted) ⌝ }
     ensures { λ r. ⌜ ((values : List ℕ) → Leaves (grantedOr (now (text .entry)) (now (state .entry)) values slot (asked wanted)

@@ -66,7 +66,8 @@ fn wanted_of(
     }
 }
 
-// The number of a send to a class's own objects (kind 1) or to a domain (kind 2), whose methods are those of a class.
+// Sends to a class's own objects (kind 1) or to a domain (kind 2), whose methods are those of a class; 24 for a domain with a
+// class that lacks the method.
 fn send_to(
     text: &[u8],
     state: &mut [u32],
@@ -85,10 +86,13 @@ fn send_to(
         return fault;
     }
     let wanted = wanted_of(&state[0..8072], kind, number, class, place, argument);
+    if locks::domain_lacks(text, &state[0..8072], wanted) {
+        return 24;
+    }
     grant(text, state, slot, wanted)
 }
 
-// The same for an object that is there.
+// Sends to an object that is there.
 fn send_to_object(
     text: &[u8],
     state: &mut [u32],
@@ -109,7 +113,7 @@ fn send_to_object(
     grant_object(text, state, slot, wanted)
 }
 
-// The number of a send to an object; 36 where there is none.
+// Sends to an object; 36 where there is none.
 fn send_object(
     text: &[u8],
     state: &mut [u32],
@@ -128,7 +132,7 @@ fn send_object(
     send_to_object(text, state, slot, number, class, place, argument)
 }
 
-// The number of a send to a class's own objects (kind 1) or to its domain (kind 2); 36 where there is no such class.
+// Sends to a class's own objects (kind 1) or to its domain (kind 2); 36 where there is no such class.
 fn send_class(
     text: &[u8],
     state: &mut [u32],
@@ -147,8 +151,8 @@ fn send_class(
     send_to(text, state, slot, kind, class, class, place, argument)
 }
 
-// The number of a send, by its target: 0 where it is granted; 24 or 36; 40 and the slot that is in its way. A number and not yet
-// an outcome, so that it stays in a register; copies of what is lent for the rarer targets, as in `grant_object`.
+// Sends by the target. The number is 0 where the send is granted; 24 or 36; 40 and the slot that is in its way. It is not yet an
+// outcome, so that it stays in a register; parts of what is lent for the rarer targets, as in `grant_object`.
 fn send_number(
     text: &[u8],
     state: &mut [u32],

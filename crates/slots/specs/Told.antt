@@ -2,18 +2,19 @@
 use Prim.Native.Nat.{ℕ}
 use mathlib.Core.Path.{_≡_}
 use mathlib.Core.List.{List}
-use Rattle.state.specs.Calls.{Answered, After, done, goes, halt, answer, number, held}
+use Rattle.model.specs.Service as Model
+use Rattle.state.specs.Calls.{After}
 use Rattle.slots.specs.declared.Outcome.{Outcome}
 use Rattle.slots.specs.declared.Outcome.the-variants.{Done, Going, Answer, Refused, Held, Stopped}
 
 -- Refused: 21 to 36. Held: 40, with the lowest clashing slot. Stopped: 41.
-abbrev pub told : Outcome → Answered
-told Done = done
-told Going = goes
-told (Answer v) = answer v
-told (Refused n) = number n
-told (Held t) = held t
-told Stopped = halt
+abbrev pub told : Outcome → Model.Answer
+told Done = Model.done
+told Going = Model.going
+told (Answer v) = Model.answer v
+told (Refused n) = Model.refuse n
+told (Held t) = Model.held t
+told Stopped = Model.stopped
 
 -- The answer, the words and the values after a call are those of the definition.
 pub record Leaves (x : After) (r : Outcome) (words values : List ℕ) : Type 0 where

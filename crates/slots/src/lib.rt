@@ -2,11 +2,11 @@
 // call makes first, and the calls begin, commit and abort. What a call answers and leaves is `called` in
 // crates/state/specs/Calls.antt, whatever is lent.
 ghost use mathlib.Core.Path.{_≡_};
-ghost use lib.ListN.{getD, set};
+ghost use lib.ListN.{set};
 ghost use Rattle.model.specs.Undo.{putBack};
 ghost use Rattle.model.specs.Service.{begin, commit, abort};
 ghost use Rattle.state.specs.Row.{noteAt, freed};
-ghost use Rattle.state.specs.Calls.{rowOf, withRow, misfitOf, called};
+ghost use Rattle.state.specs.Calls.{rowOf, phaseOf, withRow, misfitOf, called};
 ghost use Rattle.slots.specs.Told.{Leaves};
 ghost use Rattle.slots.specs.Lent.{Within};
 ghost use Rattle.slots.specs.Phases.{firstRefusal, idleRefusal};
@@ -22,23 +22,31 @@ pub enum Outcome {
     Stopped,
 }
 
-// 21, 22 or 24 where what is lent does not fit; else 0.
+// 21 or 24 where what is lent does not fit; else 0.
 fn misfit(text: &[u8], state: &[u32], values: &[u32]) -> u32
     ensures { λ r. ⌜ r ≡ misfitOf (now (text .entry)) (now (state .entry)) (now (values .entry)) ⌝ }
 {
     if state.len() < 26184 {
         return 21;
     }
-    if (words::get(state, 3) as usize != values.len()) | (2048 < values.len()) {
-        return 22;
-    }
-    if (words::get(state, 5) == 1128352845) & (words::get(state, 4) as usize == text.len()) {
+    if (words::get(state, 5) == 1128352845)
+        & (words::get(state, 4) as usize == text.len())
+        & (words::get(state, 3) as usize == values.len())
+        & (values.len() <= 2048)
+    {
         return 0;
     }
     24
 }
 
-// What every call tests first: 21, 22, 24, then 31; else 0.
+// A slot's phase: 0 closed, 1 open, 2 a message runs.
+pub fn phase_of(state: &[u32], slot: u32) -> u32
+    ensures { λ r. ⌜ r ≡ phaseOf (rowOf (now (state .entry)) slot) ⌝ }
+{
+    words::get(state, 8072 + slot as usize * 2264)
+}
+
+// What every call tests first: 21, 24, then 31, then 24 for a phase that is none; else 0.
 pub fn refusal(text: &[u8], state: &[u32], values: &[u32], slot: u32) -> u32
     ensures { λ r. ⌜ r ≡ firstRefusal (now (text .entry)) (now (state .entry)) (now (values .entry)) slot ⌝ }
 {
@@ -49,17 +57,13 @@ pub fn refusal(text: &[u8], state: &[u32], values: &[u32], slot: u32) -> u32
     if 8 <= slot {
         return 31;
     }
+    if 2 < phase_of(state, slot) {
+        return 24;
+    }
     0
 }
 
-// A slot's phase: 0 closed, 1 open, else a message runs.
-pub fn phase_of(state: &[u32], slot: u32) -> u32
-    ensures { λ r. ⌜ r ≡ getD (rowOf (now (state .entry)) slot) 0 0 ⌝ }
-{
-    words::get(state, 8072 + slot as usize * 2264)
-}
-
-// What the slot's transaction wrote in its row is 0.
+// Makes 0 what the slot's transaction wrote in its row.
 fn free(state: &mut [u32], slot: u32)
     requires { ⌜ Within (now state) slot ⌝ }
     ensures { λ _. ⌜ now (state .exit) ≡ withRow (now (state .entry)) slot (freed (rowOf (now (state .entry)) slot)) ⌝ }
@@ -69,7 +73,7 @@ fn free(state: &mut [u32], slot: u32)
     undo::clear(&mut state[start..end]);
 }
 
-// A closed slot is open.
+// Opens a closed slot.
 fn open_slot(state: &mut [u32], slot: u32)
     requires { ⌜ Within (now state) slot ⌝ }
     ensures { λ _. ⌜ now (state .exit) ≡ withRow (now (state .entry)) slot (set (rowOf (now (state .entry)) slot) 0 1) ⌝ }
@@ -79,7 +83,7 @@ fn open_slot(state: &mut [u32], slot: u32)
     words::put(&mut state[start..end], 0, 1);
 }
 
-// The values put back that the slot's transaction set.
+// Puts back the values that the slot's transaction set.
 fn undo(state: &[u32], values: &mut [u32], slot: u32)
     requires { ⌜ Within (now state) slot ⌝ }
     ensures { λ _. ⌜ now (values .exit) ≡ putBack (noteAt (rowOf (now (state .entry)) slot)) (now (values .entry)) ⌝ }
@@ -104,7 +108,7 @@ pub fn begin(text: &[u8], state: &mut [u32], values: &[u32], slot: u32) -> Outco
     Outcome::Done
 }
 
-// What commit and send test first: the slot is open, and no message runs. 21 to 31, then 32, 34; else 0.
+// What commit and send test first: the slot is open, and no message runs. The first numbers, then 32, 34; else 0.
 pub fn idle_refusal(text: &[u8], state: &[u32], values: &[u32], slot: u32) -> u32
     ensures { λ r. ⌜ r ≡ idleRefusal (now (text .entry)) (now (state .entry)) (now (values .entry)) slot ⌝ }
 {

@@ -1,5 +1,5 @@
 -- Tables that say the library of an accepted text, and hold what a start works out from them, fit that text's program.
-use Prim.Native.Nat.{ℕ, zero, suc, _+_, _≤_, _<_}
+use Prim.Native.Nat.{ℕ, zero, suc, _+_, _/_, _%_, _≤_, _<_}
 use mathlib.Core.Path.{_≡_, refl, sym, ap, ap₂, subst, _∙_}
 use mathlib.Core.Bool.{Bool, true, false, cond, _&&_, _||_}
 use mathlib.Core.Option.{none}
@@ -12,21 +12,24 @@ use Rattle.model.specs.Base.{upto}
 use Rattle.model.specs.Text.{words, linesAndRest}
 use Rattle.model.specs.Expression as Expression
 use Rattle.model.specs.Form.{reply, statementLine, formOf}
-use Rattle.model.specs.Library.{Library, Member, Class, Placed, Object, noMember, noClass, classAt, byFirstParent, methodNames}
+use Rattle.model.specs.Library.{Library, Member, Class, Placed, Object, noMember, classAt, byFirstParent, methodNames}
 use Rattle.model.specs.Read.{accepted, refused, libraryIn, readPieces, read, library}
 use Rattle.model.specs.Vector.{program, programBy, transitive}
 use Rattle.model.specs.Image.{commuteMask}
 use Rattle.model.specs.Message.{sizeOf, baseOf}
 use Rattle.model.specs.Message as Model
+use Rattle.twophase.specs.Base.{All}
 use Rattle.theory.specs.ListLaws.{upto-at, map-at}
-use Rattle.theory.specs.Accepted.{Within, unique-place, Good, all-getD, all-below, Sound, Known, Placing, library-sound, library-known, library-placing}
+use Rattle.theory.specs.Accepted.{Within, unique-place, Good, all-below, class-good, Sound, Known, Placing, library-sound, library-known, library-placing, Inside, library-within}
 use Rattle.theory.specs.Copies.{Copied, library-copied}
+use Rattle.theory.specs.Named.{Names}
+use Rattle.theory.specs.NamedLines.{library-names}
 use Rattle.words.specs.View.{partOf, classWord, objectWord, statementWord, classCount, objectCount, statementCount, memberCount, membersOf, bit, classOf, placedOf, objectOf, libraryOf}
 use Rattle.words.specs.Upto.{length-upto, getD-upto}
+use Rattle.words.specs.Bits.{bit-mask}
 use Rattle.words.specs.Look.{class-count, statement-count, object-count, member-count, class-at, shown-members, shownCount}
 use Rattle.image.specs.Each.{total}
 use Rattle.refine.specs.Rep.{statementAt, Distinct, Fits}
-use Rattle.refine.specs.Bits.{bit-mask}
 use Rattle.starting.specs.Worked.{belongs, domainMask, valuesOf, firstValue}
 use Rattle.starting.specs.Stored.{WorkedOut}
 
@@ -130,9 +133,7 @@ module _ (text ws : List ℕ) where
         omega (arith, there, class-count text ws, ap (λ (x : Object). x .class) (object-at o (objectOf text ws o) h))
 
     good : (c : ℕ) → Good (length (l .statements)) (classAt l c .methods)
-    good c =
-        all-getD (λ (k : Class). Good (length (l .statements)) (k .methods)) (l .classes) noClass (subst Sound library-is (library-sound text))
-        (record { unique = tt; within = tt }) c
+    good c = class-good l (length (l .statements)) (subst Sound library-is (library-sound text)) c
 
     distinct : (c : ℕ) → Distinct (program l) c
     unfolding program programBy
@@ -162,6 +163,13 @@ module _ (text ws : List ℕ) where
         ∙ there
         ∙ ap statementLine (sym (map-at (λ (x : Placed). x .statement) (l .statements) s (placedOf text ws s) (record { guard = none; action = reply (Expression.number 0) }) long))
 
+    places : (s : ℕ) → s < statementCount ws → let w = statementWord ws s in w / 65536 + w % 65536 ≤ length text
+    unfolding placedOf
+    places s h =
+        let all = subst (λ (z : Library). All (Inside text) (z .statements)) library-is (library-within text) in
+        let there = all-below (Inside text) (l .statements) (placedOf text ws s) all s (omega (arith, statement-count text ws)) in
+        rw (statement-at s (placedOf text ws s) h) at there
+
     -- ---- all of it
 
     -- The tables fit, where they hold the masks too.
@@ -183,4 +191,6 @@ module _ (text ws : List ℕ) where
       bodies = bodies;
       copies = copies;
       lines = lines;
+      places = places;
+      names = subst Names library-is (library-names text);
     }

@@ -6,7 +6,7 @@ use native.Mathlib.Numerals.{add-one}
 use native.Mathlib.Omega.{arith}
 use lib.ListN.{length, getD, take, drop, set, replicate, length-append, length-replicate, List·getD-append}
 use lib.Seq.{take-all, take-at, drop-at, drop-drop, drop-append-add, paste, paste-suc}
-use borrow.Author.Tests.{le-ltb, eq-eqb}
+use borrow.Author.Tests.{le-ltb, le-leb, eq-eqb}
 use Rattle.model.specs.Vector.{program}
 use Rattle.words.specs.View.{objectCount, libraryOf}
 use Rattle.image.specs.Sizes.{valueCount, values-le}
@@ -91,10 +91,10 @@ module _ (text ws tables values rest : List ℕ) (s : Started text ws tables) (e
       let now = installed tables rest in
       rw (
         le-ltb (length now) stateWords (length-there tables rest (s .size)),
-        eq-eqb (getD now 3 0) (length values) (word-there tables rest (s .size) 3 (omega arith) ∙ s .values ∙ sym e),
-        le-ltb 2048 (length values) few,
         eq-eqb (getD now 5 0) mark (word-there tables rest (s .size) 5 (omega arith) ∙ s .marked),
         eq-eqb (getD now 4 0) (length text) (word-there tables rest (s .size) 4 (omega arith) ∙ s .text-length),
+        eq-eqb (getD now 3 0) (length values) (word-there tables rest (s .size) 3 (omega arith) ∙ s .values ∙ sym e),
+        le-leb (length values) 2048 few,
       )
 
   pub fresh-start : Fresh text (installed tables rest) values (program (libraryOf text ws))

@@ -1,38 +1,28 @@
 // What a start works out from the tables of an accepted text: the masks of its methods, each class's domain, where each
 // object's values begin, and the words that tell whether what a later call is lent fits; and the state that it leaves.
-ghost use Prim.Native.Nat.{_%_, _≤_, _<_};
+ghost use Prim.Native.Nat.{_%_, _≤_};
 ghost use mathlib.Core.Path.{_≡_};
 ghost use mathlib.Core.List.{_++_};
 ghost use lib.ListN.{length, take, drop, replicate};
-ghost use Rattle.words.specs.View.{bit, classCount, objectCount};
+ghost use Rattle.words.specs.View.{classCount, objectCount};
 ghost use Rattle.starting.specs.Worked.{belongs, domainMask, withDomains, firstValue, withPlaces, withHeader};
 ghost use Rattle.starting.specs.Started.{Fill};
 
 // The mark that a start leaves.
 const MARK: u32 = 1128352845;
 
-// The mask has the bit at a place.
-fn bit(mask: u32, place: u32) -> bool
-    requires { ⌜ place < 32 ⌝ }
-    ensures { λ r. ⌜ r ≡ bit mask place ⌝ }
-{
-    (mask >> place) % 2 == 1
-}
-
 // The other class is in the domain of the class: it is the class, or has it among its ancestors.
 fn belongs(tables: &[u32], class: u32, other: u32) -> bool
-    requires { ⌜ class < 32 ⌝ }
     ensures { λ r. ⌜ r ≡ belongs (now (tables .entry)) class other ⌝ }
 {
     if other == class {
         return true;
     }
-    bit(words::class_word(tables, other, 3), class)
+    words::has_bit(words::class_word(tables, other, 3), class)
 }
 
 // The classes in the domain of a class.
 fn domain_mask(tables: &[u32], class: u32) -> u32
-    requires { ⌜ class < 32 ⌝ }
     ensures { λ r. ⌜ r ≡ domainMask (now (tables .entry)) class ⌝ }
 {
     let count = words::class_count(tables);

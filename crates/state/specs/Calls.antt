@@ -1,7 +1,7 @@
 -- The five calls over the lent text, values and words. The state is 26,184 words: the tables (8,072), then the eight slots'
 -- rows (2,264 each); what lies behind is not the machine's.
 use Prim.Native.Nat.{ℕ, _+_, _*_, _%_}
-use mathlib.Core.Bool.{Bool, not, cond, _&&_, _||_}
+use mathlib.Core.Bool.{Bool, not, cond, _&&_}
 use mathlib.Core.Option.{Option, none, some}
 use mathlib.Core.List.{List}
 use lib.ListN.{length, getD, take, drop, set}
@@ -9,19 +9,17 @@ use lib.Seq.{sets}
 use lib.Dec.{eqb, leb, ltb}
 use Rattle.model.specs.Base.{least}
 use Rattle.model.specs.Undo.{putBack}
-use Rattle.model.specs.Service.{Call, begin, send, step, commit, abort}
+use Rattle.model.specs.Service.{Call, begin, send, step, commit, abort, Answer, done, refuse, held}
 use Rattle.model.specs.Machine.{object, class, domain, Request, to}
+pub use Rattle.model.specs.Machine.{stateWords}
 use Rattle.words.specs.View.{objectWord, classWord, classCount, objectCount, memberCount}
-use Rattle.state.specs.Row.{Said, unfit, going, halted, answered, Left, noteAt, freed, carried}
+use Rattle.state.specs.Row.{Left, noteAt, freed, carried}
 use Rattle.state.specs.Turn.{decided}
-use Rattle.state.specs.Request.{Wanted, rowMeets, locked, begunRow}
+use Rattle.state.specs.Request.{Wanted, lacking, rowMeets, locked, First, on, past, nowhere, firstOf, entered}
 
 -- The mark that a start leaves.
 abbrev pub mark : ℕ
 mark = 1128352845
-
-abbrev pub stateWords : ℕ
-stateWords = 26184
 
 abbrev pub tablesOf : List ℕ → List ℕ
 tablesOf ws = take 8072 ws
@@ -32,33 +30,28 @@ rowStart s = 8072 + s * 2264
 unfoldable pub rowOf : List ℕ → ℕ → List ℕ
 rowOf ws s = take 2264 (drop (rowStart s) ws)
 
--- What a call answers, by 01's numbers: `number` 21 to 36; 40 with the slot; 41.
-pub data Answered : Type 0 where
-  done goes halt : Answered
-  answer : ℕ → Answered
-  number : ℕ → Answered
-  held : ℕ → Answered
-
 -- What a call answers and leaves.
 pub record After : Type 0 where
-  pub answered : Answered
+  pub answered : Answer
   pub words : List ℕ
   pub values : List ℕ
 
 abbrev pub refused : List ℕ → List ℕ → ℕ → After
-refused ws values n = record { answered = number n; words = ws; values = values }
+refused ws values n = record { answered = refuse n; words = ws; values = values }
 
 abbrev pub withRow : List ℕ → ℕ → List ℕ → List ℕ
 withRow ws s row = sets ws (rowStart s) row
 
 -- ---- does what is lent fit?
 
--- 21, then 22, then 24; 0 where it fits.
+-- The words are those of a start on a text of this length and on as many values.
+abbrev pub isStarted : List ℕ → List ℕ → List ℕ → Bool
+isStarted text ws values =
+    eqb (getD ws 5 0) mark && eqb (getD ws 4 0) (length text) && eqb (getD ws 3 0) (length values) && leb (length values) 2048
+
+-- 21 for a short state, else 24; 0 where it fits.
 unfoldable pub misfitOf : List ℕ → List ℕ → List ℕ → ℕ
-misfitOf text ws values =
-    cond (ltb (length ws) stateWords) 21
-    (cond (not (eqb (getD ws 3 0) (length values)) || ltb 2048 (length values)) 22
-    (cond (eqb (getD ws 5 0) mark && eqb (getD ws 4 0) (length text)) 0 24))
+misfitOf text ws values = cond (ltb (length ws) stateWords) 21 (cond (isStarted text ws values) 0 24)
 
 -- ---- send
 
@@ -66,29 +59,41 @@ abbrev pub wanted : List ℕ → ℕ → ℕ → ℕ → ℕ → ℕ → Wanted
 wanted tables kind n c k a =
     record { kind = kind; number = n; class = c; place = k; name = classWord tables c (72 + k) % 1048576; argument = a }
 
--- The slots other than s whose locks are in the way.
+-- A row's phase: 0 closed, 1 open, 2 with a message running.
+abbrev pub phaseOf : List ℕ → ℕ
+phaseOf row = getD row 0 0
+
+-- The slots other than s that are open and hold locks that are in the way.
 unfoldable pub inTheWay : List ℕ → List ℕ → ℕ → Wanted → ℕ → Bool
 unfolding rowOf rowMeets
-inTheWay text ws s q t = not (eqb t s) && rowMeets text (tablesOf ws) q (rowOf ws t)
+inTheWay text ws s q t = not (eqb t s) && not (eqb (phaseOf (rowOf ws t)) 0) && rowMeets text (tablesOf ws) q (rowOf ws t)
+
+-- The send has its locks, and its message is at its start.
+abbrev pub startedAt : List ℕ → List ℕ → List ℕ → ℕ → Wanted → First → After
+startedAt text ws values s q f =
+    record { answered = done; words = withRow ws s (entered q f (locked text (tablesOf ws) q (rowOf ws s))); values = values }
+
+-- A message that starts nowhere is 24.
+abbrev pub startedOr : List ℕ → List ℕ → List ℕ → ℕ → Wanted → First → After
+startedOr text ws values s q (on o first end) = startedAt text ws values s q (on o first end)
+startedOr text ws values s q (past o) = startedAt text ws values s q (past o)
+startedOr text ws values s q nowhere = refused ws values 24
 
 abbrev pub grantedOr : List ℕ → List ℕ → List ℕ → ℕ → Wanted → Option ℕ → After
 grantedOr text ws values s q (some t) = record { answered = held t; words = ws; values = values }
-grantedOr text ws values s q none =
-    record {
-      answered = done;
-      words = withRow ws s (begunRow text (tablesOf ws) q (locked text (tablesOf ws) q (rowOf ws s)));
-      values = values;
-    }
+grantedOr text ws values s q none = startedOr text ws values s q (firstOf text (tablesOf ws) q)
 
 -- The target's class, where object and class exist, and 36 where the method does not; a class that an object names and
--- that is not there is 24.
+-- that is not there is 24, and so is a domain with a class that lacks the method.
 unfoldable pub sentTo : List ℕ → List ℕ → List ℕ → ℕ → ℕ → ℕ → ℕ → ℕ → ℕ → After
-unfolding memberCount classWord least inTheWay rowOf begunRow locked
+unfolding memberCount classWord lacking least inTheWay rowOf firstOf entered locked
 sentTo text ws values s kind n c k a =
     let tables = tablesOf ws in
+    let q = wanted tables kind n c k a in
     cond (leb (classCount tables) c) (refused ws values 24)
     (cond (leb (memberCount tables c 1) k) (refused ws values 36)
-    (let q = wanted tables kind n c k a in grantedOr text ws values s q (least (inTheWay text ws s q) 8)))
+    (cond (lacking text tables q) (refused ws values 24)
+    (grantedOr text ws values s q (least (inTheWay text ws s q) 8))))
 
 abbrev pub sentBy : List ℕ → List ℕ → List ℕ → ℕ → Request → After
 sentBy text ws values s (to (object o) k a) =
@@ -98,21 +103,15 @@ sentBy text ws values s (to (domain c) k a) = cond (ltb c (classCount (tablesOf 
 
 -- ---- step
 
-abbrev pub toldBy : Said → Answered
-toldBy unfit = number 24
-toldBy going = goes
-toldBy halted = halt
-toldBy (answered v) = answer v
-
 abbrev pub laid : List ℕ → ℕ → Left → After
-laid ws s x = record { answered = toldBy (x .said); words = withRow ws s (x .row); values = x .values }
+laid ws s x = record { answered = x .answered; words = withRow ws s (x .row); values = x .values }
 
 -- ---- the calls
 
 abbrev pub undoneAt : List ℕ → List ℕ → ℕ → After
 undoneAt ws values s = record { answered = done; words = withRow ws s (freed (rowOf ws s)); values = putBack (noteAt (rowOf ws s)) values }
 
--- On a slot below 8, by its phase: closed, open, or with a message running (any other number counts as running).
+-- On a slot below 8, by its phase: closed, open, or with a message running.
 abbrev pub onClosed : List ℕ → List ℕ → Call Request → After
 onClosed ws values (begin s) = record { answered = done; words = withRow ws s (set (rowOf ws s) 0 1); values = values }
 onClosed ws values (send s q) = refused ws values 32
@@ -141,9 +140,12 @@ slotIn (step s) = s
 slotIn (commit s) = s
 slotIn (abort s) = s
 
+-- Any other phase is 24.
 abbrev pub byPhase : List ℕ → List ℕ → List ℕ → Call Request → ℕ → After
 byPhase text ws values c phase =
-    cond (eqb phase 0) (onClosed ws values c) (cond (eqb phase 1) (onIdle text ws values c) (onRunning text ws values c))
+    cond (eqb phase 0) (onClosed ws values c)
+    (cond (eqb phase 1) (onIdle text ws values c)
+    (cond (eqb phase 2) (onRunning text ws values c) (refused ws values 24)))
 
 -- One call on what is lent, whatever that is.
 unfoldable pub called : List ℕ → List ℕ → List ℕ → Call Request → After
@@ -152,4 +154,4 @@ called text ws values c =
     let misfit = misfitOf text ws values in
     cond (not (eqb misfit 0)) (refused ws values misfit)
     (cond (leb 8 (slotIn c)) (refused ws values 31)
-    (byPhase text ws values c (getD (rowOf ws (slotIn c)) 0 0)))
+    (byPhase text ws values c (phaseOf (rowOf ws (slotIn c)))))

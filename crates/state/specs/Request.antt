@@ -1,15 +1,17 @@
 -- A send over the words: whom it names, which slots' locks are in its way, and what it leaves in its slot's row.
 use Prim.Native.Nat.{ℕ, _+_, _-_, _^_}
 use mathlib.Core.Bool.{Bool, not, cond, _&&_}
+use mathlib.Core.Option.{Option, none, some}
 use mathlib.Core.List.{List}
 use lib.ListN.{getD, set}
 use lib.Bits.{bitAnd, bitOr}
-use lib.Dec.{eqb, ltb}
+use lib.Dec.{eqb, leb, ltb}
 use Rattle.model.specs.Base.{fold, upto, any}
-use Rattle.model.specs.Library.{memberPlace}
+use Rattle.model.specs.Library.{Member, memberPlace}
 use Rattle.words.specs.View.{nameOf, objectWord, classWord, classCount, objectCount, memberCount, membersOf, bit}
 use Rattle.state.specs.Row.{withBits, objectRow}
-use Rattle.state.specs.Turn.{objectFrom, bodyAt}
+use Rattle.words.specs.Bodies.{bodyAt}
+use Rattle.state.specs.Turn.{objectFrom}
 
 -- A target, an object, a class or a domain by its kind 0, 1 or 2 and its number, with the class in which the method is
 -- counted, the method's place there, its name's word, and the send's argument.
@@ -46,6 +48,16 @@ unfoldable pub concerns : List ℕ → List ℕ → Wanted → ℕ → Bool
 unfolding inDomain placeIn memberCount
 concerns text tables q d = inDomain tables q d && ltb (placeIn text tables q d) (memberCount tables d 1)
 
+-- Class d is in the domain and has no such method.
+unfoldable pub lacks : List ℕ → List ℕ → Wanted → ℕ → Bool
+unfolding inDomain placeIn memberCount
+lacks text tables q d = inDomain tables q d && leb (memberCount tables d 1) (placeIn text tables q d)
+
+-- A send to a domain, some class of which has no such method.
+unfoldable pub lacking : List ℕ → List ℕ → Wanted → Bool
+unfolding lacks any upto
+lacking text tables q = eqb (q .kind) 2 && any (lacks text tables q) (upto (λ d. d) (classCount tables))
+
 -- The row holds a lock that clashes with (M, true) on class d.
 unfoldable pub classMeets : List ℕ → ℕ → ℕ → Bool
 unfolding meets
@@ -78,11 +90,34 @@ locked text tables q row =
 
 -- ---- the message
 
--- The row with the message at its start: on its first object, or past the last object where there is none.
-unfoldable pub begunRow : List ℕ → List ℕ → Wanted → List ℕ → List ℕ
-unfolding objectFrom bodyAt objectWord objectRow
-begunRow text tables q row =
-    let named = set (set (set (set (set row 0 2) 5 (q .kind)) 6 (q .number)) 7 (q .name)) 8 (q .argument) in
+-- Where a message starts: on an object, with its method's first statement there and the one past its last; past the last object,
+-- where there is none; or nowhere, where its first object has no such method.
+pub data First : Type 0 where
+  on : ℕ → ℕ → ℕ → First
+  past : ℕ → First
+  nowhere : First
+
+abbrev pub firstOn : ℕ → Option Member → First
+firstOn o none = nowhere
+firstOn o (some b) = on o (b .first) (b .first + b .count)
+
+unfoldable pub firstOf : List ℕ → List ℕ → Wanted → First
+unfolding objectFrom bodyAt objectWord
+firstOf text tables q =
     let o = objectFrom tables (q .kind) (q .number) 0 in
-    let b = bodyAt text tables (objectWord tables o 1) (q .place) (q .name) in
-    cond (ltb o (objectCount tables)) (objectRow o (b .first) (b .first + b .count) 0 named) (set (set (set (set named 4 o) 1 0) 2 0) 3 0)
+    cond (ltb o (objectCount tables)) (firstOn o (bodyAt text tables (objectWord tables o 1) (q .place) (q .name))) (past o)
+
+-- The row that runs a message: its target, name and argument.
+unfoldable pub namedRow : Wanted → List ℕ → List ℕ
+namedRow q row = set (set (set (set (set row 0 2) 5 (q .kind)) 6 (q .number)) 7 (q .name)) 8 (q .argument)
+
+-- The message past the last object.
+unfoldable pub pastRow : ℕ → List ℕ → List ℕ
+pastRow o row = set (set (set (set row 4 o) 1 0) 2 0) 3 0
+
+-- The row with the message at its start; a message that starts nowhere leaves it as it is.
+unfoldable pub entered : Wanted → First → List ℕ → List ℕ
+unfolding namedRow pastRow objectRow
+entered q (on o first end) row = objectRow o first end 0 (namedRow q row)
+entered q (past o) row = pastRow o (namedRow q row)
+entered q nowhere row = row

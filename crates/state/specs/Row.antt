@@ -15,6 +15,8 @@ use lib.ListN.{getD, set, drop, replicate}
 use lib.Bits.{bitOr}
 use lib.Dec.{eqb, ltb}
 use Rattle.model.specs.Undo.{Undo, putBack}
+use Rattle.model.specs.Service.{Answer, going, refuse, stopped}
+use Rattle.model.specs.Service as Told
 use Rattle.words.specs.View.{bit}
 
 -- What the next step of a running message is.
@@ -36,14 +38,9 @@ pub data Turn : Type 0 where
   -- the message's answer
   answer : ℕ → Turn
 
--- What a step says.
-pub data Said : Type 0 where
-  unfit going halted : Said
-  answered : ℕ → Said
-
--- What a step says and leaves.
+-- What a step answers and leaves.
 pub record Left : Type 0 where
-  pub said : Said
+  pub answered : Answer
   pub row : List ℕ
   pub values : List ℕ
 
@@ -162,21 +159,21 @@ unfolding unnoted released
 freed row = cond (eqb (getD row 9 0) 0) (released row) (replicate 216 0 ++ drop 216 (unnoted row))
 
 -- The transaction undone: "puts back .. and frees the slot".
-abbrev pub undoneTo : Said → List ℕ → List ℕ → Left
-undoneTo said row values = record { said = said; row = freed row; values = putBack (noteAt row) values }
+abbrev pub undoneTo : Answer → List ℕ → List ℕ → Left
+undoneTo a row values = record { answered = a; row = freed row; values = putBack (noteAt row) values }
 
 abbrev pub goingTo : List ℕ → List ℕ → Left
-goingTo row values = record { said = going; row = row; values = values }
+goingTo row values = record { answered = going; row = row; values = values }
 
 -- A turn carried out; a row without activations fits none that needs one.
 unfoldable pub carried : List ℕ → List ℕ → Turn → Left
 unfolding putBack noteAt freed notedRow skipRow callRow replyRow backRow objectRow
-carried row values misfit = record { said = unfit; row = row; values = values }
-carried row values stop = undoneTo halted row values
+carried row values misfit = record { answered = refuse 24; row = row; values = values }
+carried row values stop = undoneTo stopped row values
 carried row values skip = goingTo (skipRow row) values
 carried row values (assign k v) = goingTo (skipRow (notedRow row k (getD values k 0))) (set values k v)
 carried row values (call first end argument) = goingTo (callRow first end argument row) values
 carried row values (reply v) = goingTo (replyRow v row) values
 carried row values (back v) = goingTo (backRow v row) values
 carried row values (next o first end sum) = goingTo (objectRow o first end sum row) values
-carried row values (answer v) = record { said = answered v; row = set row 0 1; values = values }
+carried row values (answer v) = record { answered = Told.answer v; row = set row 0 1; values = values }

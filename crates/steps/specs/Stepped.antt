@@ -5,7 +5,7 @@ use mathlib.Core.List.{List}
 use lib.ListN.{length}
 use Rattle.state.specs.Row.{Left, carried}
 use Rattle.state.specs.Turn.{decided}
-use Rattle.state.specs.Calls.{tablesOf, rowOf, toldBy, laid}
+use Rattle.state.specs.Calls.{tablesOf, rowOf, laid}
 use Rattle.rows.specs.declared.Turn.{Turn}
 use Rattle.rows.specs.declared.Said.{Said}
 use Rattle.rows.specs.Carried as Rows
@@ -24,10 +24,9 @@ module _ (text ws values : List ℕ) (s : ℕ) (h : Within ws s) (turn : Turn) (
       ap (carried (part ws s) values) d
       ∙ ap (λ (row : List ℕ). carried row values (decided text (tablesOf ws) row values)) (part-is ws s)
 
-  pub stepped : (o : Outcome) → told o ≡ toldBy (said r)
-      → Leaves (laid ws s left) o (lent ws s row) values′
+  pub stepped : (o : Outcome) → told o ≡ said r → Leaves (laid ws s left) o (lent ws s row) values′
   stepped o t = record {
-    says = t ∙ ap toldBy (k .says ∙ ap (λ (x : Left). x .said) left-is);
+    says = t ∙ k .says ∙ ap (λ (x : Left). x .answered) left-is;
     words-are = lent-is ws s h row (left .row) size (k .row-is ∙ ap (λ (x : Left). x .row) left-is);
     values-are = k .values-are ∙ ap (λ (x : Left). x .values) left-is;
   }

@@ -5,14 +5,14 @@ ghost use mathlib.Core.Path.{_≡_};
 ghost use Rattle.model.specs.Service.{step};
 ghost use Rattle.state.specs.Row.{carried};
 ghost use Rattle.state.specs.Turn.{decided};
-ghost use Rattle.state.specs.Calls.{tablesOf, rowOf, toldBy, laid, called};
+ghost use Rattle.state.specs.Calls.{tablesOf, rowOf, laid, called};
 ghost use Rattle.rows.specs.Carried.{said};
 ghost use Rattle.slots.specs.Told.{told, Leaves};
 ghost use Rattle.slots.specs.Lent.{Within};
 
 // What a step says, as a call's answer.
 fn outcome_of(step: Said) -> Outcome
-    ensures { λ r. ⌜ told r ≡ toldBy (said step) ⌝ }
+    ensures { λ r. ⌜ told r ≡ said step ⌝ }
 {
     match step {
         Said::Unfit => Outcome::Refused(24),
@@ -22,7 +22,7 @@ fn outcome_of(step: Said) -> Outcome
     }
 }
 
-// The next step of a slot's message: decided, then carried out.
+// Runs the next step of a slot's message: decides it, then carries it out.
 fn advance(text: &[u8], state: &mut [u32], values: &mut [u32], slot: u32) -> Outcome
     requires { ⌜ Within (now state) slot ⌝ }
     ensures { λ r. ⌜ Leaves (laid (now (state .entry)) slot (carried (rowOf (now (state .entry)) slot) (now (values .entry))

@@ -10,11 +10,14 @@ fn print_front(lines: &[u8], size: usize) {
     }
 }
 
-// What `tables` prints for the text.
+// Prints the lines of the text; there is room for those of every text.
 fn print_text(text: &[u8]) {
     let mut lines = [0u8; 66560];
-    let size = cishmolaq::print_tables(text, &mut lines);
-    print_front(&lines, size);
+    let answer = cishmolaq::print_tables(text, &mut lines);
+    match answer {
+        cishmolaq::Answer::Done(size) => print_front(&lines, size),
+        cishmolaq::Answer::Refused(_, _) => {}
+    }
 }
 
 fn main() {

@@ -1,48 +1,30 @@
 -- A method that a class inherits is a copy: the class that writes the method has it as each class has it that inherits it,
--- body and all.
-use Prim.Native.Nat.{ℕ, zero, suc, pred, _+_, _≤_, _<_}
+-- body and all. So the rule of resolution finds each method as the class has it.
+use Prim.Native.Nat.{ℕ, zero, suc, pred, _≤_, _<_}
 use native.Mathlib.Omega.{arith}
 use native.Mathlib.Decide.{decLt}
-use mathlib.Core.Path.{_≡_, refl, sym, ap, subst, _∙_}
-use mathlib.Core.Bool.{Bool, true, false, cond, false≢true}
+use mathlib.Core.Path.{_≡_, refl, sym, ap, ap₂, subst, _∙_}
+use mathlib.Core.Bool.{Bool, true, false, cond}
 use mathlib.Core.List.{List, [], _∷_, _++_, map}
 use lib.ListN.{length, getD, length-append, List·getD-append, List·getD-eq-default}
 use lib.Seq.{getD-append-seam}
-use lib.Dec.{ltb}
-use Rattle.model.specs.Base.{same, any, firstAt, alter, fold}
+use Rattle.model.specs.Base.{same, firstAt, alter}
 use Rattle.model.specs.Word.{Name}
-use Rattle.model.specs.Form.{Statement, Form, classLine, fieldLine, methodLine, statementLine, endLine, objectLine, malformed, Line, linesFrom, restOf, Place, atStart, amongFields, withinBody, amongMethods, amongObjects, placeAfter, mayStand, firstMisplaced}
-use Rattle.model.specs.Library.{Member, Class, Library, nothing, noMember, noClass, member, memberPlace, among, classNumber, className, classAt, joined, inherited, written, newClass, withField, withMethod, withStatement, oneMore, add}
-use Rattle.model.specs.Fault.{faultOf}
-use Rattle.model.specs.Text.{linesAndRest}
-use Rattle.model.specs.Read.{Reading, accepted, refused, unless, libraryIn as libraryOf, judged, orJudged, readPieces, read, library}
-use Rattle.twophase.specs.Base.{All, all-append, all-map}
-use Rattle.theory.specs.ListLaws.{map-at}
-use Rattle.theory.specs.Accepted.{Unique, unique-place, Good, all-getD, all-below, written-all, alter-length, library-sound}
-
--- ---- lists
+use Rattle.model.specs.Form.{Form, classLine, fieldLine, methodLine, statementLine, endLine, objectLine, malformed, Line, Place, placeAfter, mayStand}
+use Rattle.model.specs.Library.{Member, Class, Library, noMember, noClass, member, memberPlace, among, classNumber, className, classAt, inherited, written, newClass, withField, withMethod, withStatement, oneMore, add, Resolution, byFirstParent}
+use Rattle.model.specs.Read.{library}
+use Rattle.twophase.specs.Base.{All, all-map}
+use Rattle.theory.specs.ListLaws.{map-at, is-there, alter-length, alter-there, alter-else, alter-last}
+use Rattle.theory.specs.Lookup.{place-known, name-at, name-known}
+use Rattle.theory.specs.Lawful.{Lawful, byFirstParent-lawful}
+use Rattle.theory.specs.Pass.{InBody, in-body, of-text}
+use Rattle.theory.specs.Accepted.{Unique, unique-place, all-below, all-alter, class-good, inherited-all, written-all, library-sound}
 
 module _ {A : Type 0} (P : A → Type 0) (d : A) where
   -- What holds at each place holds of all.
   all-places : (xs : List A) → ((k : ℕ) → k < length xs → P (getD xs k d)) → All P xs
   all-places [] f = tt
   all-places (x ∷ xs) f = (f 0 (omega arith), all-places xs (λ k h. f (suc k) (omega arith)))
-
-module _ {A : Type 0} (f : A → A) (d : A) where
-  -- The altered element, and each other one.
-  alter-there : (n : ℕ) (xs : List A) → n < length xs → getD (alter n f xs) n d ≡ f (getD xs n d)
-  unfolding alter
-  alter-there n [] h = absurd (omega arith)
-  alter-there zero (x ∷ xs) h = refl
-  alter-there (suc n) (x ∷ xs) h = alter-there n xs (omega arith)
-
-  alter-else : (n k : ℕ) (xs : List A) → (k ≡ n → ⊥) → getD (alter n f xs) k d ≡ getD xs k d
-  unfolding alter
-  alter-else n k [] ne = refl
-  alter-else zero zero (x ∷ xs) ne = absurd (ne refl)
-  alter-else zero (suc k) (x ∷ xs) ne = refl
-  alter-else (suc n) zero (x ∷ xs) ne = refl
-  alter-else (suc n) (suc k) (x ∷ xs) ne = alter-else n k xs (λ e. ne (ap suc e))
 
 -- ---- members and their copies
 
@@ -75,11 +57,12 @@ writer-has cs copies c k h =
     go p (no o) = let e : c ≡ m .origin = omega (arith, p .0) in subst (λ (b : ℕ). Has (methodsAt cs b) m) e (k, h, refl)
 
 -- Of members with different names, one is found by its name.
-found : (ms : List Member) → Unique ms → (m : Member) → Has ms m → member ms (m .name) ≡ m
+found : (ms : List Member) → Unique ms → (m : Member) → Has ms m → (among ms (m .name) ≡ true) × (member ms (m .name) ≡ m)
 unfolding member
 found ms u m (k, h, e) =
     let name : getD (map (λ n. n .name) ms) k [] ≡ m .name = map-at (λ (n : Member). n .name) ms k noMember [] h ∙ ap (λ (n : Member). n .name) e in
-    ap (λ (j : ℕ). getD ms j noMember) (ap (memberPlace ms) (sym name) ∙ unique-place ms u k h) ∙ e
+    let place : memberPlace ms (m .name) ≡ k = ap (memberPlace ms) (sym name) ∙ unique-place ms u k h in
+    (subst (λ (n : Name). among ms n ≡ true) name (name-known ms k h), ap (λ (j : ℕ). getD ms j noMember) place ∙ e)
 
 -- ---- a class more, or the last one altered
 
@@ -122,20 +105,9 @@ appended cs k last copies =
 
 -- ---- what a class inherits
 
-joined-all : (P : Member → Type 0) (done ms : List Member) → All P done → All P ms → All P (joined done ms)
-unfolding joined fold
-joined-all P done [] h w = h
-joined-all P done (m ∷ ms) h w = go (λ d g. joined-all P d ms g (w .1)) (among done (m .name))
-  where
-    go : ((d : List Member) → All P d → All P (joined d ms)) → (t : Bool) → All P (joined (cond t done (done ++ (m ∷ []))) ms)
-    go rest true = rest done h
-    go rest false = rest (done ++ (m ∷ [])) (all-append P done (m ∷ []) h (w .0, tt))
-
 -- Only a known class has methods.
-class-there : (cs : List Class) (c k : ℕ) → k < length (methodsAt cs c) → c < length cs
-class-there [] c k h = absurd (omega arith)
-class-there (x ∷ xs) zero k h = omega arith
-class-there (x ∷ xs) (suc c) k h = let t = class-there xs c k h in omega arith
+pub class-there : (cs : List Class) (c k : ℕ) → k < length (methodsAt cs c) → c < length cs
+class-there cs c k h = is-there (λ (x : Class). k < length (x .methods)) noClass cs c (λ z. omega arith) h
 
 module _ (l : Library) (copies : Copies (l .classes)) where
   -- A parent's methods in the class that comes next.
@@ -145,22 +117,14 @@ module _ (l : Library) (copies : Copies (l .classes)) where
       all-places (Copy cs (length cs)) noMember (methodsAt cs c)
       (λ k h. let w = writer-has cs copies c k h in let t = class-there cs c k h in (omega (arith, w .0, t), λ o. w .1))
 
-  inherited-from : (done : List Member) (ps : List Name) → All (Copy (l .classes) (length (l .classes))) done
-      → All (Copy (l .classes) (length (l .classes))) (fold (λ ms p. joined ms (className l p .methods)) done ps)
-  unfolding fold className
-  inherited-from done [] h = h
-  inherited-from done (p ∷ ps) h =
-      inherited-from (joined done (className l p .methods)) ps
-      (joined-all (Copy (l .classes) (length (l .classes))) done (className l p .methods) h (parent-copies (classNumber l p)))
-
   inherited-copies : (ps : List Name) → All (Copy (l .classes) (length (l .classes))) (inherited (λ c. c .methods) l ps)
-  unfolding inherited
-  inherited-copies ps = inherited-from [] ps tt
+  unfolding className
+  inherited-copies ps = inherited-all (λ c. c .methods) l (Copy (l .classes) (length (l .classes))) ps (λ p m. parent-copies (classNumber l p))
 
 -- ---- what a class writes
 
 -- A written member stands where its name was found.
-written-there : (m : Member) (ms : List Member) → getD (written m ms) (memberPlace ms (m .name)) noMember ≡ m
+pub written-there : (m : Member) (ms : List Member) → getD (written m ms) (memberPlace ms (m .name)) noMember ≡ m
 unfolding written memberPlace firstAt
 written-there m [] = refl
 written-there m (k ∷ ks) = go (same (k .name) (m .name)) (written-there m ks)
@@ -173,10 +137,7 @@ written-there m (k ∷ ks) = go (same (k .name) (m .name)) (written-there m ks)
 -- A statement more in a method of the class's own.
 more-copies : (cs : List Class) (n : ℕ) (ms : List Member) (k : ℕ) → getD ms k noMember .origin ≡ n → All (Copy cs n) ms
     → All (Copy cs n) (alter k oneMore ms)
-unfolding alter
-more-copies cs n [] k e h = tt
-more-copies cs n (m ∷ ms) zero e h = ((h .0 .0, λ o. absurd (omega arith)), h .1)
-more-copies cs n (m ∷ ms) (suc k) e h = (h .0, more-copies cs n ms k e (h .1))
+more-copies cs n ms k e h = all-alter (Copy cs n) (Copy cs n) noMember ms k oneMore (λ m p. p) (λ l p. (p .0, λ o. absurd (omega arith))) h
 
 more-origin : (ms : List Member) (k : ℕ) → getD (alter k oneMore ms) k noMember .origin ≡ getD ms k noMember .origin
 unfolding alter
@@ -190,38 +151,17 @@ more-origin (m ∷ ms) (suc k) = more-origin ms k
 abbrev Own : List Class → Type 0
 Own cs = getD (lastOf cs .methods) (lastOf cs .latest) noMember .origin ≡ pred (length cs)
 
--- Within a body it is.
-abbrev Open : Place → List Class → Type 0
-Open withinBody cs = Own cs
-Open atStart cs = Unit {0}
-Open amongFields cs = Unit {0}
-Open amongMethods cs = Unit {0}
-Open amongObjects cs = Unit {0}
-
--- A statement stands within a body.
-open-body : (p : Place) (s : Statement) (cs : List Class) → mayStand (statementLine s) p ≡ true → Open p cs → Own cs
-unfolding mayStand any
-open-body withinBody s cs e o = o
-open-body atStart s cs e o = absurd (false≢true e)
-open-body amongFields s cs e o = absurd (false≢true e)
-open-body amongMethods s cs e o = absurd (false≢true e)
-open-body amongObjects s cs e o = absurd (false≢true e)
-
 -- The last class, altered so that its method written last is its own.
 altered-own : (cs : List Class) (f : Class → Class)
     → (let k = f (lastOf cs) in getD (k .methods) (k .latest) noMember .origin ≡ pred (length cs)) → Own (alter (pred (length cs)) f cs)
-unfolding alter
-altered-own [] f e = refl
-altered-own (k ∷ ks) f e =
-    let cs = k ∷ ks in
-    subst (λ (n : ℕ). (let x = getD (alter (length ks) f cs) (pred n) noClass in getD (x .methods) (x .latest) noMember .origin ≡ pred n))
-    (sym (alter-length (length ks) f cs))
-    (subst (λ (x : Class). getD (x .methods) (x .latest) noMember .origin ≡ length ks) (sym (alter-there f noClass (length ks) cs (omega arith))) e)
+altered-own cs f e =
+    alter-last (λ (k : Class). getD (k .methods) (k .latest) noMember .origin ≡ pred (length cs)) f noClass cs (λ z. omega arith) e
+    ∙ ap pred (sym (alter-length (pred (length cs)) f cs))
 
 -- ---- a line more
 
 abbrev Kept : Place → Library → Type 0
-Kept p l = Copies (l .classes) × Open p (l .classes)
+Kept p l = Copies (l .classes) × InBody p (Own (l .classes))
 
 method-copies : (cs : List Class) (n : ℕ) (m : Name) (first : ℕ) (k : Class) → All (Copy cs n) (k .methods) → All (Copy cs n) (withMethod n m first k .methods)
 unfolding withMethod
@@ -249,7 +189,7 @@ add-kept p l line (methodLine n) e h =
 add-kept p l line (statementLine s) e h =
     let c = pred (length (l .classes)) in
     let k = lastOf (l .classes) in
-    let own = open-body p s (l .classes) e (h .1) in (
+    let own = in-body (Own (l .classes)) p s e (h .1) in (
       altered (l .classes) withStatement (more-copies (l .classes) c (k .methods) (k .latest) own (h .0 c)) (h .0),
       altered-own (l .classes) withStatement (more-origin (k .methods) (k .latest) ∙ own),
     )
@@ -257,69 +197,45 @@ add-kept p l line endLine e h = (h .0, tt)
 add-kept p l line (objectLine n c vs) e h = (h .0, tt)
 add-kept p l line malformed e h = (h .0, tt)
 
--- ---- the pass over the lines, with the place of each
-
--- What an added line keeps that stands where it may, holds of the library of any text, at some place.
-module _ (P : Place → Library → Type 0)
-    (keeps : (p : Place) (l : Library) (line : Line) → mayStand (line .form) p ≡ true → P p l → P (placeAfter (line .form)) (add l line (line .form))) where
-  abbrev Somewhere : Library → Type 0
-  Somewhere l = (p : Place) × P p l
-
-  placed-keeps : (ls : List Line) (rest : List ℕ) (m : ℕ) (p : Place) (l : Library) (n : ℕ) (k : Library) → 0 < m → firstMisplaced m p ls rest ≡ 0
-      → P p l → judged l n ls ≡ accepted k → Somewhere k
-  unfolding judged firstMisplaced
-  placed-keeps [] rest m p l n k pos e h w = (p, subst (P p) (let z : libraryOf (accepted l) ≡ libraryOf (accepted k) = ap libraryOf w in z) h)
-  placed-keeps (line ∷ below) rest m p l n k pos e h w =
-      stand (mayStand (line .form) p) refl (placed-keeps below rest (m + 1) (placeAfter (line .form)) (add l line (line .form)) (n + 1) k (omega arith)) e
-    where
-      after : Library
-      after = add l line (line .form)
-
-      next : Place
-      next = placeAfter (line .form)
-
-      judge : (x : ℕ) → (judged after (n + 1) below ≡ accepted k → Somewhere k) → unless x n (judged after (n + 1) below) ≡ accepted k → Somewhere k
-      judge zero go v = go v
-      judge (suc x) go v = let z : _≡_ {A = ℕ} 0 1 = cc in absurd (omega arith)
-
-      stand : (b : Bool) → mayStand (line .form) p ≡ b
-          → (firstMisplaced (m + 1) next below rest ≡ 0 → P next after → judged after (n + 1) below ≡ accepted k → Somewhere k)
-          → cond b (firstMisplaced (m + 1) next below rest) m ≡ 0 → Somewhere k
-      stand true q go v = judge (faultOf l below (line .form)) (go v (keeps p l line q h)) w
-      stand false q go v = absurd (omega arith)
-
-  of-placed : P atStart nothing → (rest : List ℕ) (ls : List Line) → Somewhere (libraryOf (orJudged (firstMisplaced 1 atStart ls rest) ls))
-  of-placed start rest ls = go (firstMisplaced 1 atStart ls rest) refl
-    where
-      judge : firstMisplaced 1 atStart ls rest ≡ 0 → (r : Reading) → judged nothing 1 ls ≡ r → Somewhere (libraryOf r)
-      judge e (accepted l) w = placed-keeps ls rest 1 atStart nothing 1 l (omega arith) e start w
-      judge e (refused f n) w = (atStart, start)
-
-      go : (n : ℕ) → firstMisplaced 1 atStart ls rest ≡ n → Somewhere (libraryOf (orJudged n ls))
-      go zero e = judge e (judged nothing 1 ls) refl
-      go (suc n) e = (atStart, start)
-
-  placed-library : P atStart nothing → (text : List ℕ) → Somewhere (library text)
-  unfolding library read readPieces
-  placed-library start text = go (ltb 32768 (length text))
-    where
-      go : (b : Bool) → Somewhere (libraryOf (cond b (refused 11 0) (readPieces (linesAndRest text))))
-      go true = (atStart, start)
-      go false = of-placed start (restOf (linesAndRest text)) (linesFrom 0 (linesAndRest text))
-
 -- ---- the library of a text
 
 -- A method that a class has is the one that the class which writes it has, body and all.
 abbrev pub Copied : Library → Member → Type 0
-Copied l m = member (classAt l (m .origin) .methods) (m .name) ≡ m
+Copied l m = let ms = classAt l (m .origin) .methods in (among ms (m .name) ≡ true) × (member ms (m .name) ≡ m)
 
 pub library-copied : (text : List ℕ) (c j : ℕ) → j < length (classAt (library text) c .methods)
     → Copied (library text) (getD (classAt (library text) c .methods) j noMember)
 library-copied text c j h =
     let l = library text in
     let m = getD (classAt l c .methods) j noMember in
-    let copies = placed-library Kept (λ p k line e s. add-kept p k line (line .form) e s) (λ b. tt, tt) text .1 .0 in
-    let good =
-    all-getD (λ (k : Class). Good (length (l .statements)) (k .methods)) (l .classes) noClass (library-sound text)
-    (record { unique = tt; within = tt }) (m .origin) in
+    let copies = of-text text (λ p ls k. Kept p k) (λ ls. (λ b. tt, tt)) (λ p k line below q s. add-kept p k line (line .form) (q .stands) s) .1 .0 in
+    let good = class-good l (length (l .statements)) (library-sound text) (m .origin) in
     found (classAt l (m .origin) .methods) (good .unique) m (writer-has (l .classes) copies c j h .1)
+
+-- ---- resolution
+
+-- A rule of resolution that gives copies: it finds each method that a class has as the class has it, and none that it has not.
+pub record Resolves (l : Library) (resolve : Resolution) : Type 0 where
+  pub lawful : Lawful l resolve
+  pub copied : (c : ℕ) (m : Name) → among (classAt l c .methods) m ≡ true
+      → let ms = classAt l (resolve c m) .methods in (among ms m ≡ true) × (member ms m ≡ member (classAt l c .methods) m)
+
+-- 01's rule does where each method is a copy.
+pub byFirstParent-resolves : (l : Library) → ((c j : ℕ) → j < length (classAt l c .methods) → Copied l (getD (classAt l c .methods) j noMember))
+    → Resolves l (byFirstParent l)
+unfolding byFirstParent member
+byFirstParent-resolves l copies = record { lawful = byFirstParent-lawful l; copied = known }
+  where
+    known : (c : ℕ) (m : Name) → among (classAt l c .methods) m ≡ true
+        → let ms = classAt l (byFirstParent l c m) .methods in (among ms m ≡ true) × (member ms m ≡ member (classAt l c .methods) m)
+    known c m e =
+        let ms = classAt l c .methods in
+        let j = memberPlace ms m in
+        let h = place-known ms m e in
+        let b = getD ms j noMember in
+        let writer : b .origin ≡ byFirstParent l c m = sym (map-at (λ (k : Member). k .origin) ms j noMember (length (l .classes)) h) in
+        let name : b .name ≡ m = sym (map-at (λ (k : Member). k .name) ms j noMember [] h) ∙ name-at ms m h in
+        let there = copies c j h in (
+          ap₂ (λ (d : ℕ) (n : Name). among (classAt l d .methods) n) (sym writer) (sym name) ∙ there .0,
+          ap₂ (λ (d : ℕ) (n : Name). member (classAt l d .methods) n) (sym writer) (sym name) ∙ there .1,
+        )

@@ -1,10 +1,9 @@
--- The texts of the examples: those of document 01 and of the paper, and texts at the edges of 01's limits.
-use Prim.Native.Nat.{ℕ, zero, suc, _+_}
+-- The texts of the examples: those of document 01 and of the paper, and texts at the edges of 01's rules.
+use Prim.Native.Nat.{ℕ}
 use Prim.Native.String.{String}
 use mathlib.Core.List.{List, [], _∷_, _++_, flatMap}
 use lib.ListN.{replicate}
-use Rattle.model.specs.Base.{bytes, upto}
-use Rattle.model.specs.Tables.{digits}
+use Rattle.model.specs.Base.{bytes}
 
 -- Lines, each with its LF.
 unfoldable pub text : List String → List ℕ
@@ -84,47 +83,3 @@ long =
     text ("end" ∷ "method m" ∷ []) ++ text (replicate 31 "send c to self 0") ++
     text ("end" ∷ "method n" ∷ []) ++ text (replicate 31 "send c to self 0") ++
     text ("reply x" ∷ "end" ∷ "object o a" ∷ [])
-
--- ---- texts at the limits
-
--- The line `word xK` for each K below n.
-unfoldable pub numbered : String → String → ℕ → List ℕ
-unfolding flatMap upto digits
-numbered word behind n = flatMap (λ k. bytes word ++ digits 10 k ++ bytes behind) (upto (λ k. k) n)
-
-unfoldable pub withFields : ℕ → List ℕ
-unfolding text numbered
-withFields n = text ("class a" ∷ []) ++ numbered "field x" "\n" n
-
-unfoldable pub withMethods : ℕ → List ℕ
-unfolding text numbered
-withMethods n = text ("class a" ∷ []) ++ numbered "method x" "\nend\n" n
-
-unfoldable pub withClasses : ℕ → List ℕ
-unfolding numbered
-withClasses n = numbered "class x" "\n" n
-
-unfoldable pub withObjects : ℕ → List ℕ
-unfolding text numbered
-withObjects n = text ("class a" ∷ []) ++ numbered "object x" " a\n" n
-
-unfoldable pub withStatements : ℕ → List ℕ
-unfolding text
-withStatements n = text ("class a" ∷ "method m" ∷ []) ++ text (replicate n "reply 0") ++ text ("end" ∷ [])
-
--- A body of one statement.
-unfoldable pub saying : String → List ℕ
-unfolding text
-saying s = text ("class a" ∷ "field x" ∷ "method m" ∷ s ∷ "end" ∷ [])
-
--- An expression in which every path has n operators, with the leaf given.
-unfoldable pub tree : List ℕ → ℕ → List ℕ
-tree leaf zero = leaf
-tree leaf (suc n) = let e = tree leaf n in bytes "+ " ++ e ++ bytes " " ++ e
-
--- An accepted text of 32,767 bytes and one more for each byte of `tail`.
-unfoldable pub longest : String → List ℕ
-unfolding text flatMap tree
-longest tail =
-    text ("class a" ∷ "method m" ∷ []) ++ flatMap (λ l. bytes "reply " ++ l ++ bytes "\n") (replicate 9 (tree (bytes "4294967295") 8))
-    ++ bytes "reply " ++ tree (bytes "1234567") 8 ++ bytes "\n" ++ text (replicate 11 "reply 4294967295") ++ bytes "reply " ++ bytes tail ++ bytes "\nend\n"

@@ -1,6 +1,6 @@
 -- The examples: one table, each row an input and what it must give, and one theorem, that no row fails. The starred examples
--- of document 01 come first, then its others, then edges of its rules, then samples from outside.
-use Prim.Native.Nat.{ℕ, _+_, _*_}
+-- of document 01 come first, then edges of its rules. Its examples without a star are run by the tests of `host/`.
+use Prim.Native.Nat.{ℕ}
 use Prim.Native.String.{String}
 use mathlib.Core.Path.{_≡_, refl}
 use mathlib.Core.Bool.{Bool, true, false, _&&_}
@@ -14,12 +14,13 @@ use Rattle.model.specs.Expression.{Parsed, parsed, unread, readLevels, expressi
 use Rattle.model.specs.Library.{byFirstParent}
 use Rattle.model.specs.Read.{verdict, library}
 use Rattle.model.specs.Vector.{joinedVector}
-use Rattle.model.specs.Image.{image, u32Bytes, startingValues, startingValuesInto, statementPart, statementRefusal, compileRefusal, compiledInto, valuesRefusal}
-use Rattle.model.specs.Tables.{printed, letters}
-use Rattle.model.specs.Machine.{object, class, domain, to, Call, begin, send, step, commit, abort, Answer, done, going, answer, refuse, held, stopped, played}
+use Rattle.model.specs.Told.{numberOf}
+use Rattle.model.specs.Image.{image, u32Bytes, startingValues, startingValuesInto, statementPart, statementAnswer, compileAnswer, compiledInto, valuesAnswer}
+use Rattle.model.specs.Tables.{printed, printAnswer, printedInto, letters}
+use Rattle.model.specs.Service.{callNumber, callDetail}
+use Rattle.model.specs.Machine.{object, class, domain, to, Call, begin, send, step, commit, abort, Answer, done, going, answer, refuse, held, stopped, startAnswer, played}
 use Rattle.model.specs.Course.{Compared, course}
-use Rattle.theory.specs.ExampleTexts.{text, lanes, figure1, endless, diamond, circle, prefixed, mixed, long, withFields, withMethods, withClasses, withObjects, withStatements, saying, longest}
-use Rattle.theory.specs.ExampleVectors
+use Rattle.theory.specs.ExampleTexts.{text, lanes, figure1, endless, diamond, circle, prefixed, mixed, long}
 
 -- What is put in, and what must come out.
 pub data Row : Type 0 where
@@ -29,18 +30,21 @@ pub data Row : Type 0 where
   prints : List ℕ → List ℕ → Row
   -- the direct vector of a class's method, in the letters of `tables`
   direct : List ℕ → ℕ → String → String → Row
-  -- the image of a text, whole; and its length and pairs
-  compiles : List ℕ → List ℕ → Row
+  -- the length of a text's image, and its pairs
   pairs : List ℕ → ℕ → List ℕ → Row
   -- a statement of a text by its count, and the number of a look-up
   finds : List ℕ → ℕ → String → Row
   misses : List ℕ → ℕ → ℕ → Row
-  -- the number that compiling into a buffer of that many bytes gives, and starting values into a list of that many
+  -- the number that compiling or printing into a buffer of that many bytes gives, starting values into a list of that many, and a
+  -- start on a list of that many in a state of so many words
   compilesInto : List ℕ → ℕ → ℕ → Row
+  printsInto : List ℕ → ℕ → ℕ → Row
   counts : List ℕ → ℕ → ℕ → Row
-  -- what a list holds after the starting values were written into it, and a buffer after compiling into it
+  startsIn : List ℕ → ℕ → ℕ → ℕ → Row
+  -- what a list holds after the starting values were written into it, and a buffer after compiling or printing into it
   starts : List ℕ → List ℕ → List ℕ → Row
   leaves : List ℕ → List ℕ → List ℕ → Row
+  leavesPrinted : List ℕ → List ℕ → List ℕ → Row
   -- the value of an expression without fields, `arg` being 7 and `got` 9
   values : String → ℕ → Row
   -- the answers of a list of calls made after a start on the text's starting values, and the fields in the end
@@ -57,12 +61,7 @@ sameLists (x ∷ xs) [] = false
 sameLists (x ∷ xs) (y ∷ ys) = same x y && sameLists xs ys
 
 abbrev pub coded : Answer → List ℕ
-coded done = 0 ∷ []
-coded going = 1 ∷ []
-coded (answer v) = 2 ∷ v ∷ []
-coded (refuse n) = n ∷ []
-coded (held s) = 40 ∷ s ∷ []
-coded stopped = 41 ∷ []
+coded a = callNumber a ∷ callDetail a ∷ []
 
 abbrev pub whole : Parsed → ℕ → Bool
 whole (parsed e []) v = eqb (valueOf (λ f. 0) 7 9 e) v
@@ -80,20 +79,22 @@ abbrev pub given : List ℕ → List Call → List Answer × List ℕ
 given t cs = played t (startingValues (library t)) cs
 
 unfoldable pub passes : Row → Bool
-unfolding same every pieces readLevels valueOf verdict library printed image startingValues startingValuesInto statementPart statementRefusal compileRefusal compiledInto valuesRefusal joinedVector byFirstParent played course
+unfolding same every pieces readLevels valueOf verdict library printed printAnswer printedInto image startingValues startingValuesInto statementPart statementAnswer compileAnswer compiledInto valuesAnswer startAnswer joinedVector byFirstParent played course
 passes (reads t n l) = let v = verdict t in eqb (v .0) n && eqb (v .1) l
 passes (prints t s) = same (printed t) s
 passes (direct t c m s) =
     let l = library t in
     same (letters (joinedVector l (byFirstParent l) c (record { class = c; method = bytes m } ∷ []))) (bytes s)
-passes (compiles t bs) = same (image t) bs
 passes (pairs t n ps) = eqb (length (image t)) n && same (take 24 (image t)) (flatMap u32Bytes ps)
 passes (finds t k s) = same (statementPart t k) (bytes s)
-passes (misses t k n) = eqb (statementRefusal t k .0) n && same (statementPart t k) []
-passes (compilesInto t k n) = eqb (compileRefusal t k .0) n
-passes (counts t k n) = eqb (valuesRefusal t k .0) n
+passes (misses t k n) = eqb (numberOf (statementAnswer t k)) n && same (statementPart t k) []
+passes (compilesInto t k n) = eqb (numberOf (compileAnswer t k)) n
+passes (printsInto t k n) = eqb (numberOf (printAnswer t k)) n
+passes (counts t k n) = eqb (numberOf (valuesAnswer t k)) n
+passes (startsIn t k m n) = eqb (numberOf (startAnswer t k m)) n
 passes (starts t vs ws) = same (startingValuesInto t vs) ws
 passes (leaves t bs cs) = same (compiledInto t bs) cs
+passes (leavesPrinted t bs cs) = same (printedInto t bs) cs
 passes (values s v) = whole (expression (words (bytes s))) v
 passes (plays t cs rs fs) = let x = given t cs in sameLists (map coded (x .0)) (map coded rs) && same (x .1) fs
 passes (agrees t cs) =
@@ -133,99 +134,34 @@ starred =
     plays lanes (begin 1 ∷ send 1 (to (object 0) 1 0) ∷ begin 0 ∷ send 0 (to (class 1) 0 0) ∷ []) (done ∷ done ∷ done ∷ done ∷ []) (0 ∷ 0 ∷ 0 ∷ []) ∷
     plays endless (begin 0 ∷ send 0 (to (object 0) 0 0) ∷ replicate 8 (step 0)) (done ∷ done ∷ replicate 7 going ++ (stopped ∷ [])) [] ∷ []
 
--- The examples without a star.
-abbrev others : List Row
-others =
-    reads (text ("class a234567890123456" ∷ [])) 0 0 ∷
-    reads (text ("class a2345678901234567" ∷ [])) 12 1 ∷
-    reads (withFields 32) 0 0 ∷
-    reads (withFields 33) 17 34 ∷
-    reads (saying "reply + + + + + + + + 1 2 3 4 5 6 7 8 9") 0 0 ∷
-    reads (saying "reply + + + + + + + + + 1 2 3 4 5 6 7 8 9 0") 12 4 ∷
-    reads (text ("class a" ∷ "class b : c" ∷ "class d" ∷ "class e" ∷ "class f" ∷ "class g" ∷ "class h" ∷ "class i" ∷ "class J" ∷ [])) 12 9 ∷ []
-
--- "32,768 bytes read, 32,769: 11."
-abbrev longestRows : List Row
-longestRows = reads (longest "1") 0 0 ∷ reads (longest "12") 11 0 ∷ []
-
--- Each number, and the first and the last allowed of each limit.
-abbrev limits : List Row
-limits =
-    reads (10 ∷ []) 12 1 ∷
-    reads (bytes "class a") 12 1 ∷
-    reads (text ("class a" ∷ "method m" ∷ "reply 1" ∷ [])) 12 4 ∷
-    reads (text ("class a" ∷ "method m" ∷ "field x" ∷ "end" ∷ [])) 12 3 ∷
-    reads (text ("class a" ∷ "method m" ∷ "end" ∷ "field x" ∷ [])) 12 4 ∷
-    reads (text ("class a :" ∷ [])) 12 1 ∷
-    reads (text ("class  a" ∷ [])) 12 1 ∷
-    reads (text ("class level" ∷ [])) 12 1 ∷
-    reads (saying "add x 1") 12 4 ∷
-    reads (saying "when x when x reply 1") 12 4 ∷
-    reads (saying "when x") 12 4 ∷
-    reads (saying "reply 4294967295") 0 0 ∷
-    reads (saying "reply 4294967296") 12 4 ∷
-    reads (saying "reply 01") 12 4 ∷
-    reads (saying "send a.b.c to self 0") 12 4 ∷
-    reads (text ("class a" ∷ "class a" ∷ [])) 13 2 ∷
-    reads (text ("class a" ∷ "field x" ∷ "class b : a" ∷ "field x" ∷ [])) 13 4 ∷
-    reads (text ("class a : b b" ∷ [])) 13 1 ∷
-    reads (text ("class a : a" ∷ [])) 14 1 ∷
-    reads (text ("object o a" ∷ [])) 14 1 ∷
-    reads (saying "send n to self 0") 14 4 ∷
-    reads (saying "when y reply 1") 14 4 ∷
-    reads (text ("class a" ∷ "field x" ∷ "class b" ∷ "field x" ∷ "class c : a b" ∷ [])) 15 5 ∷
-    reads (text ("class r" ∷ "field x" ∷ "class a : r" ∷ "class b : r" ∷ "class c : a b" ∷ [])) 0 0 ∷
-    reads (text ("class b" ∷ "method m" ∷ "end" ∷ "class a" ∷ "method m" ∷ "send b.m to self 0" ∷ "end" ∷ [])) 16 6 ∷
-    reads (saying "send a.m to self 0") 16 4 ∷
-    reads (saying "send a.n to self 0") 14 4 ∷
-    reads (withClasses 16) 0 0 ∷
-    reads (withClasses 17) 17 17 ∷
-    reads (withObjects 64) 0 0 ∷
-    reads (withObjects 65) 17 66 ∷
-    reads (withMethods 32) 0 0 ∷
-    reads (withMethods 33) 17 66 ∷
-    reads (withStatements 32) 0 0 ∷
-    reads (withStatements 33) 17 35 ∷
-    reads (withClasses 5 ++ text ("class a : x0 x1 x2 x3" ∷ [])) 0 0 ∷
-    reads (withClasses 5 ++ text ("class a : x0 x1 x2 x3 x4" ∷ [])) 17 6 ∷
-    reads (text ("class a" ∷ "field x" ∷ "object o a 1" ∷ [])) 0 0 ∷
-    reads (text ("class a" ∷ "field x" ∷ "object o a 1 2" ∷ [])) 17 3 ∷
+-- The builder's numbers, and what a refusal leaves.
+abbrev lent : List Row
+lent =
     finds lanes 3 "set focus arg" ∷
     misses lanes 5 23 ∷
-    misses (withFields 33) 0 17 ∷
     compilesInto lanes 123 21 ∷
-    compilesInto lanes 124 0 ∷
-    compilesInto (withFields 33) 0 17 ∷
-    leaves [] (replicate 23 9) (replicate 23 9) ∷
     leaves [] (replicate 25 9) (image [] ++ (9 ∷ [])) ∷
-    leaves (withFields 33) (9 ∷ []) (9 ∷ []) ∷
+    printsInto (bytes "class") 12 21 ∷
+    leavesPrinted (bytes "class") (replicate 13 9) (text ("refused 12 1" ∷ [])) ∷
     counts lanes 2 22 ∷
-    counts lanes 3 0 ∷
-    starts mixed (replicate 4 9) (5 ∷ 7 ∷ 0 ∷ 4294967295 ∷ []) ∷
-    starts mixed (replicate 3 9) (replicate 3 9) ∷ []
+    startsIn lanes 2 26183 21 ∷
+    startsIn lanes 2 26184 22 ∷
+    starts mixed (replicate 4 9) (5 ∷ 7 ∷ 0 ∷ 4294967295 ∷ []) ∷ []
 
 -- Resolution, circles, prefixes.
 abbrev vectors : List Row
 vectors =
     prints diamond (text ("a m WN n" ∷ "b m WNN n" ∷ "c m NW n" ∷ "d m WNN n" ∷ [])) ∷
     prints circle (text ("a p WRW nnnn" ∷ "a q WRW nnnn" ∷ "a r WRW nnnn" ∷ "a s WRW nnnn" ∷ [])) ∷
-    prints prefixed (text ("a m WN nn" ∷ "a n WN nn" ∷ "b m NW nn" ∷ "b n NW nn" ∷ "c m NNW nn" ∷ "c n NNW nn" ∷ [])) ∷
-    prints (text ("class a" ∷ "field x" ∷ "class b" ∷ "method m" ∷ "end" ∷ [])) (text ("b m - y" ∷ [])) ∷ []
+    prints prefixed (text ("a m WN nn" ∷ "a n WN nn" ∷ "b m NW nn" ∷ "b n NW nn" ∷ "c m NNW nn" ∷ "c n NNW nn" ∷ [])) ∷ []
 
 -- In `mixed` the methods of a and b are g 0 and h 1; the objects are a's, b's and a's again.
 abbrev machine : List Row
 machine =
     plays mixed (begin 0 ∷ send 0 (to (domain 0) 0 3) ∷ replicate 12 (step 0))
     (done ∷ done ∷ replicate 11 going ++ (answer 18 ∷ [])) (8 ∷ 7 ∷ 3 ∷ 2 ∷ []) ∷
-    plays mixed (begin 0 ∷ send 0 (to (domain 0) 0 3) ∷ begin 1 ∷ send 1 (to (object 1) 1 0) ∷ send 1 (to (object 0) 1 0) ∷ [])
-    (done ∷ done ∷ done ∷ done ∷ refuse 34 ∷ []) (5 ∷ 7 ∷ 0 ∷ 4294967295 ∷ []) ∷
-    plays mixed (begin 1 ∷ send 1 (to (class 2) 0 0) ∷ commit 1 ∷ step 1 ∷ step 1 ∷ commit 1 ∷ commit 1 ∷ [])
-    (done ∷ done ∷ refuse 34 ∷ answer 0 ∷ refuse 35 ∷ done ∷ refuse 32 ∷ []) (5 ∷ 7 ∷ 0 ∷ 4294967295 ∷ []) ∷
     plays mixed (begin 8 ∷ begin 7 ∷ begin 7 ∷ step 6 ∷ send 7 (to (object 3) 0 0) ∷ send 7 (to (class 3) 0 0) ∷ send 7 (to (object 0) 2 0) ∷ abort 7 ∷ abort 7 ∷ [])
     (refuse 31 ∷ done ∷ refuse 33 ∷ refuse 32 ∷ refuse 36 ∷ refuse 36 ∷ refuse 36 ∷ done ∷ refuse 32 ∷ []) (5 ∷ 7 ∷ 0 ∷ 4294967295 ∷ []) ∷
-    plays mixed
-    (begin 0 ∷ begin 3 ∷ send 0 (to (object 2) 0 1) ∷ step 0 ∷ step 0 ∷ step 0 ∷ send 3 (to (object 2) 1 0) ∷ send 3 (to (class 0) 1 0) ∷ commit 0 ∷ send 3 (to (object 2) 1 0) ∷ [])
-    (done ∷ done ∷ done ∷ going ∷ going ∷ answer 0 ∷ held 0 ∷ held 0 ∷ done ∷ done ∷ []) (5 ∷ 7 ∷ 0 ∷ 0 ∷ []) ∷
     plays mixed
     (begin 5 ∷ send 5 (to (object 1) 0 9) ∷ step 5 ∷ step 5 ∷ begin 2 ∷ send 2 (to (domain 0) 0 1) ∷ send 2 (to (class 0) 0 1) ∷ step 2 ∷ abort 2 ∷ abort 5 ∷ [])
     (done ∷ done ∷ going ∷ going ∷ done ∷ held 5 ∷ done ∷ going ∷ done ∷ done ∷ []) (5 ∷ 7 ∷ 0 ∷ 4294967295 ∷ []) ∷
@@ -243,24 +179,6 @@ courses =
     agrees mixed
     (begin 0 ∷ begin 1 ∷ send 0 (to (object 0) 0 1) ∷ send 1 (to (class 1) 0 2) ∷ step 0 ∷ step 1 ∷ step 1 ∷ step 0 ∷ step 1 ∷ step 1 ∷ step 0 ∷ step 1 ∷ step 1 ∷
     commit 1 ∷ send 0 (to (domain 0) 0 4) ∷ replicate 12 (step 0) ++ (commit 0 ∷ begin 0 ∷ send 0 (to (object 0) 0 7) ∷ step 0 ∷ abort 0 ∷ [])) ∷ []
-
-abbrev samples : List Row
-samples =
-    prints ExampleVectors.text56 ExampleVectors.tables56 ∷ compiles ExampleVectors.text56 ExampleVectors.image56 ∷
-    prints ExampleVectors.text49 ExampleVectors.tables49 ∷ compiles ExampleVectors.text49 ExampleVectors.image49 ∷
-    prints ExampleVectors.text52 ExampleVectors.tables52 ∷ compiles ExampleVectors.text52 ExampleVectors.image52 ∷
-    prints ExampleVectors.text47 ExampleVectors.tables47 ∷ compiles ExampleVectors.text47 ExampleVectors.image47 ∷
-    prints ExampleVectors.text1 ExampleVectors.tables1 ∷ compiles ExampleVectors.text1 ExampleVectors.image1 ∷
-    reads ExampleVectors.damaged56 14 18 ∷
-    reads ExampleVectors.damaged49 13 3 ∷
-    reads ExampleVectors.damaged18 12 15 ∷
-    reads ExampleVectors.damaged47 16 4 ∷
-    reads ExampleVectors.damaged31 15 60 ∷
-    plays ExampleVectors.text49 ExampleVectors.calls49 ExampleVectors.answers49 ExampleVectors.fields49 ∷
-    plays ExampleVectors.text1 ExampleVectors.calls1 ExampleVectors.answers1 ExampleVectors.fields1 ∷
-    plays ExampleVectors.text17 ExampleVectors.calls17 ExampleVectors.answers17 ExampleVectors.fields17 ∷
-    plays ExampleVectors.text47 ExampleVectors.calls47 ExampleVectors.answers47 ExampleVectors.fields47 ∷
-    plays ExampleVectors.text56 ExampleVectors.calls56 ExampleVectors.answers56 ExampleVectors.fields56 ∷ []
 
 -- ---- every row passes, a group at a time
 
@@ -280,17 +198,9 @@ starred-pass : Passing starred
 unfolding every passes lanes figure1 endless text
 starred-pass = refl
 
-others-pass : Passing others
-unfolding every passes text withFields saying
-others-pass = refl
-
-longestRows-pass : Passing longestRows
-unfolding every passes longest
-longestRows-pass = refl
-
-limits-pass : Passing limits
-unfolding every passes lanes mixed text saying withFields withMethods withClasses withObjects withStatements
-limits-pass = refl
+lent-pass : Passing lent
+unfolding every passes lanes mixed text
+lent-pass = refl
 
 vectors-pass : Passing vectors
 unfolding every passes text diamond circle prefixed
@@ -308,15 +218,11 @@ courses-pass : Passing courses
 unfolding every passes mixed
 courses-pass = refl
 
-samples-pass : Passing samples
-unfolding every passes ExampleVectors.text56 ExampleVectors.text49 ExampleVectors.text52 ExampleVectors.text47 ExampleVectors.text1 ExampleVectors.text17 ExampleVectors.tables56 ExampleVectors.tables49 ExampleVectors.tables52 ExampleVectors.tables47 ExampleVectors.tables1 ExampleVectors.damaged56 ExampleVectors.damaged49 ExampleVectors.damaged18 ExampleVectors.damaged47 ExampleVectors.damaged31
-samples-pass = refl
-
 -- The table.
 abbrev pub rows : List Row
-rows = (starred ++ (others ++ (longestRows ++ (limits ++ (vectors ++ (machine ++ (stops ++ (courses ++ samples))))))))
+rows = starred ++ (lent ++ (vectors ++ (machine ++ (stops ++ courses))))
 
 -- Every row passes.
 pub every-row-passes : every passes rows ≡ true
 every-row-passes =
-    both starred _ starred-pass (both others _ others-pass (both longestRows _ longestRows-pass (both limits _ limits-pass (both vectors _ vectors-pass (both machine _ machine-pass (both stops _ stops-pass (both courses _ courses-pass (samples-pass))))))))
+    both starred _ starred-pass (both lent _ lent-pass (both vectors _ vectors-pass (both machine _ machine-pass (both stops _ stops-pass courses-pass))))

@@ -1,5 +1,4 @@
 pub mod ExampleTexts
-pub mod ExampleVectors
 pub mod Examples
 pub mod ListLaws
 pub mod Lookup
@@ -19,5 +18,11 @@ pub mod UndoLaws
 pub mod Alone
 pub mod ServiceLaws
 pub mod CommitOrder
+pub mod Pass
 pub mod Accepted
 pub mod Copies
+pub mod Heirs
+pub mod Ahead
+pub mod Named
+pub mod NamedLines
+pub mod NamedRuns

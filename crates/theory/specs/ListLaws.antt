@@ -1,6 +1,6 @@
 -- What the model takes for granted (Base): a test that passes tells what it tests, and each list has the members that it
 -- should.
-use Prim.Native.Nat.{ℕ, zero, suc, _+_, _<_}
+use Prim.Native.Nat.{ℕ, zero, suc, pred, _+_, _<_}
 use native.Mathlib.Omega.{arith}
 use native.Mathlib.Decide.{decLt}
 use mathlib.Core.Path.{_≡_, refl, sym, ap, subst, _∙_}
@@ -10,7 +10,7 @@ use mathlib.Core.List.{List, [], _∷_, _++_, map, flatMap, List·Memᴰ, List·
 use lib.ListN.{length, getD, take, drop, length-append, List·getD-append}
 use lib.Dec.{T, eqb, ltb, eqb→eq, eqb-refl, ltb→lt}
 use lib.Seq.{getD-at}
-use Rattle.model.specs.Base.{same, any, keep, firstAt, upto}
+use Rattle.model.specs.Base.{same, any, keep, firstAt, alter, upto}
 
 -- ---- tests
 
@@ -61,6 +61,15 @@ pub same-refl : (xs : List ℕ) → same xs xs ≡ true
 unfolding same
 same-refl [] = refl
 same-refl (x ∷ xs) = rw eqb-same (same-refl xs)
+
+-- It does not matter which name is first.
+pub same-comm : (xs ys : List ℕ) → same xs ys ≡ same ys xs
+same-comm xs ys = go (same xs ys) (same ys xs) refl refl
+  where
+    go : (a b : Bool) → same xs ys ≡ a → same ys xs ≡ b → a ≡ b
+    go true b p q = sym (same-refl ys) ∙ subst (λ (zs : List ℕ). same ys zs ≡ b) (same-sound xs ys p) q
+    go false true p q = sym p ∙ subst (λ (zs : List ℕ). same xs zs ≡ true) (sym (same-sound ys xs q)) (same-refl xs)
+    go false false p q = refl
 
 -- ---- members
 
@@ -209,6 +218,71 @@ module _ {A : Type 0} where
       go : (k < n → List·Memᴰ (f k) (upto f n)) → Dec (k < n) → List·Memᴰ (f k) (upto f n ++ (f n ∷ []))
       go ih (yes w) = Memᴰ·append-left (f n ∷ []) (ih w)
       go ih (no w) = let here : k ≡ n = omega arith in Memᴰ·append-right (upto f n) (List·Memᴰ·head (ap f here))
+
+  -- Where something is so that is not so of d, there is an element.
+  pub is-there : (P : A → Type 0) (d : A) (xs : List A) (k : ℕ) → (P d → ⊥) → P (getD xs k d) → k < length xs
+  is-there P d [] k none h = absurd (none h)
+  is-there P d (x ∷ xs) zero none h = omega arith
+  is-there P d (x ∷ xs) (suc k) none h = let t = is-there P d xs k none h in omega arith
+
+  -- An element altered leaves the others, and what is altered twice is altered by both.
+  pub alter-length : (n : ℕ) (f : A → A) (xs : List A) → length (alter n f xs) ≡ length xs
+  unfolding alter
+  alter-length n f [] = refl
+  alter-length zero f (x ∷ xs) = refl
+  alter-length (suc n) f (x ∷ xs) = ap suc (alter-length n f xs)
+
+  pub alter-twice : (n : ℕ) (f g : A → A) (xs : List A) → alter n g (alter n f xs) ≡ alter n (λ x. g (f x)) xs
+  unfolding alter
+  alter-twice n f g [] = refl
+  alter-twice zero f g (x ∷ xs) = refl
+  alter-twice (suc n) f g (x ∷ xs) = ap (λ (ys : List A). x ∷ ys) (alter-twice n f g xs)
+
+  pub alter-none : (n : ℕ) (xs : List A) → alter n (λ x. x) xs ≡ xs
+  unfolding alter
+  alter-none n [] = refl
+  alter-none zero (x ∷ xs) = refl
+  alter-none (suc n) (x ∷ xs) = ap (λ (ys : List A). x ∷ ys) (alter-none n xs)
+
+  pub alter-there : (f : A → A) (d : A) (n : ℕ) (xs : List A) → n < length xs → getD (alter n f xs) n d ≡ f (getD xs n d)
+  unfolding alter
+  alter-there f d n [] h = absurd (omega arith)
+  alter-there f d zero (x ∷ xs) h = refl
+  alter-there f d (suc n) (x ∷ xs) h = alter-there f d n xs (omega arith)
+
+  pub alter-else : (f : A → A) (d : A) (n k : ℕ) (xs : List A) → (k ≡ n → ⊥) → getD (alter n f xs) k d ≡ getD xs k d
+  unfolding alter
+  alter-else f d n k [] ne = refl
+  alter-else f d zero zero (x ∷ xs) ne = absurd (ne refl)
+  alter-else f d zero (suc k) (x ∷ xs) ne = refl
+  alter-else f d (suc n) zero (x ∷ xs) ne = refl
+  alter-else f d (suc n) (suc k) (x ∷ xs) ne = alter-else f d n k xs (λ e. ne (ap suc e))
+
+  -- What holds at each place, and of the element altered, or of one more at the end, holds at each place of the new list.
+  pub alter-each : (P : ℕ → A → Type 0) (f : A → A) (d : A) (n : ℕ) (xs : List A) → ((k : ℕ) → P k (getD xs k d)) → (n < length xs → P n (f (getD xs n d)))
+      → (k : ℕ) → P k (getD (alter n f xs) k d)
+  unfolding alter
+  alter-each P f d n [] h new k = h k
+  alter-each P f d zero (x ∷ xs) h new zero = new (omega arith)
+  alter-each P f d zero (x ∷ xs) h new (suc k) = h (suc k)
+  alter-each P f d (suc n) (x ∷ xs) h new zero = h 0
+  alter-each P f d (suc n) (x ∷ xs) h new (suc k) = alter-each (λ j. P (suc j)) f d n xs (λ j. h (suc j)) (λ l. new (omega arith)) k
+
+  pub append-each : (P : ℕ → A → Type 0) (d x : A) (xs : List A) → ((k : ℕ) → P k (getD xs k d)) → P (length xs) x → (k : ℕ) → P k (getD (xs ++ (x ∷ [])) k d)
+  append-each P d x [] h new zero = new
+  append-each P d x [] h new (suc k) = h (suc k)
+  append-each P d x (y ∷ ys) h new zero = h 0
+  append-each P d x (y ∷ ys) h new (suc k) = append-each (λ j. P (suc j)) d x ys (λ j. h (suc j)) new k
+
+  -- The last element, altered.
+  pub alter-last : (P : A → Type 0) (f : A → A) (d : A) (xs : List A) → (length xs ≡ 0 → P d) → P (f (getD xs (pred (length xs)) d))
+      → (let ys = alter (pred (length xs)) f xs in P (getD ys (pred (length ys)) d))
+  unfolding alter
+  alter-last P f d [] none h = none refl
+  alter-last P f d (x ∷ xs) none h =
+      let n = length xs in
+      subst (λ (k : ℕ). P (getD (alter n f (x ∷ xs)) (pred k) d)) (sym (alter-length n f (x ∷ xs)))
+      (subst P (sym (alter-there f d n (x ∷ xs) (omega arith))) h)
 
 module _ {A B : Type 0} where
   -- `map` and `flatMap` have the images of the members.

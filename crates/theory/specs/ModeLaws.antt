@@ -1,8 +1,12 @@
 -- The modes by their two tests, `depends` and `changes`: joins, the order and clashes. No other file takes modes apart.
+use Prim.Native.Nat.{_<_}
 use mathlib.Core.Path.{_≡_, refl, sym, subst, _∙_}
-use mathlib.Core.Bool.{Bool, true, false, _&&_, _||_, or-true, and-comm, or-comm, false≢true}
+use mathlib.Core.Bool.{Bool, true, false, not, _&&_, _||_, or-true, and-comm, or-comm, false≢true}
 use mathlib.Core.List.{List, [], _∷_, List·Memᴰ, List·Memᴰ·head, List·Memᴰ·tail}
-use Rattle.model.specs.Mode.{Mode, Null, Read, Write, depends, changes, join, joins, clash}
+use native.Mathlib.Omega.{arith}
+use lib.ListN.{length}
+use lib.Dec.{eqb}
+use Rattle.model.specs.Mode.{Mode, Null, Read, Write, rank, depends, changes, join, joins, compatible, clash}
 
 -- ---- the tests
 
@@ -32,6 +36,27 @@ clash-is Read Write = refl
 clash-is Write Null = refl
 clash-is Write Read = refl
 clash-is Write Write = refl
+
+-- The two tests tell the rank, which has a row in the table.
+pub rank-null : (a : Mode) → eqb (rank a) 0 ≡ not (depends a || changes a)
+rank-null Null = refl
+rank-null Read = refl
+rank-null Write = refl
+
+pub rank-read : (a : Mode) → eqb (rank a) 1 ≡ depends a && not (changes a)
+rank-read Null = refl
+rank-read Read = refl
+rank-read Write = refl
+
+pub rank-write : (a : Mode) → eqb (rank a) 2 ≡ changes a
+rank-write Null = refl
+rank-write Read = refl
+rank-write Write = refl
+
+pub rank-lt : (a : Mode) → rank a < length compatible
+rank-lt Null = omega arith
+rank-lt Read = omega arith
+rank-lt Write = omega arith
 
 -- What is changed is depended on: its value before is put back by an abort.
 pub changes-depends : (a : Mode) → changes a ≡ true → depends a ≡ true

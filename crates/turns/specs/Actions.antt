@@ -1,16 +1,16 @@
 -- What an action comes to in a frame, by its keyword, the words behind that and its expression's value.
 use Prim.Native.Nat.{ℕ, _+_, _≤_, _<_}
-use mathlib.Core.Path.{_≡_}
+use mathlib.Core.Path.{_≡_, refl}
 use mathlib.Core.Bool.{Bool, true, false, cond, _&&_}
 use mathlib.Core.Option.{Option, none, some}
 use mathlib.Core.List.{List}
 use lib.ListN.{length, take, drop}
-use lib.Dec.{ltb}
+use lib.Dec.{leb}
 use borrow.Author.Tests.{lt-ltb, le-ltb, le-leb, lt-leb}
 use Rattle.model.specs.Base.{bytes, same}
 use Rattle.model.specs.Text.{pieces}
 use Rattle.model.specs.Word.{isName}
-use Rattle.model.specs.Expression.{Expression, Parsed, valueOf}
+use Rattle.model.specs.Expression.{Expression, Parsed}
 use Rattle.model.specs.Form.{Keyword, classWord, fieldWord, methodWord, endWord, objectWord, setWord, sendWord, replyWord, whenWord, otherWord, Action, Statement}
 use Rattle.model.specs.Library.{Member, memberPlace, classNumber}
 use Rattle.lex.specs.Scan.{isByte, before}
@@ -19,8 +19,11 @@ use Rattle.syntax.specs.Kinds.{isAction, isTarget}
 use Rattle.words.specs.View.{memberCount, membersOf, libraryOf}
 use Rattle.evaluate.specs.declared.Value.{Value}
 use Rattle.evaluate.specs.Valued.{valued}
-use Rattle.state.specs.Row.{Turn, misfit, skip, assign, reply}
-use Rattle.state.specs.Turn.{bodyIn, fieldIn, callTurn, actionTurn, statementTurn}
+use Rattle.state.specs.Row.{Turn, misfit, stop, skip, assign, call, reply}
+use Rattle.words.specs.Bodies.{bodyIn, boundsOf}
+use Rattle.state.specs.Turn.{valueIn, setTurn, callTurn, actionTurn, statementTurn}
+use Rattle.words.specs.declared.body.Body.{Body}
+use Rattle.words.specs.declared.body.Body.the-variants.{Found, Missing}
 use Rattle.turns.specs.declared.line.Frame.{Frame}
 
 abbrev pub isWhen : Keyword → Bool
@@ -66,21 +69,15 @@ skipped whenWord ws = ws
 skipped otherWord ws = ws
 
 -- The body that `M` or `C.M` names for class c, cut at its points.
-unfoldable pub targetBody : List ℕ → List ℕ → ℕ → List (List ℕ) → Member
+unfoldable pub targetBody : List ℕ → List ℕ → ℕ → List (List ℕ) → Option Member
 unfolding bodyIn classNumber libraryOf
 targetBody text tables c ps =
     cond (isEmpty (others ps)) (bodyIn text tables c (first ps))
     (bodyIn text tables (classNumber (libraryOf text tables) (first ps)) (first (others ps)))
 
-unfoldable pub setTurn : List ℕ → List ℕ → Frame → List ℕ → ℕ → Turn
-unfolding memberPlace membersOf memberCount
-setTurn text tables frame f v =
-    let k = memberPlace (membersOf text tables (frame .class) 0) f in
-    cond (ltb k (memberCount tables (frame .class) 0)) (assign (frame .base + k) v) skip
-
 -- The turn by the keyword, the word w behind it and the value v.
 abbrev pub actedTurn : List ℕ → List ℕ → Frame → Keyword → List ℕ → ℕ → Turn
-actedTurn text tables frame setWord w v = setTurn text tables frame w v
+actedTurn text tables frame setWord w v = setTurn text tables (frame .class) (frame .base) w v
 actedTurn text tables frame sendWord w v = callTurn (frame .depth) (targetBody text tables (frame .class) (pieces 46 w)) v
 actedTurn text tables frame replyWord w v = reply v
 actedTurn text tables frame classWord w v = misfit
@@ -98,19 +95,19 @@ skippedTurn a = cond (isAction a) skip misfit
 -- In a frame whose object has the values `own`.
 module _ (text tables own : List ℕ) (frame : Frame) where
   -- An expression's value, and what the evaluator answers for one that was read at the front of s.
-  abbrev pub valueIn : Expression → ℕ
-  valueIn = valueOf (fieldIn text tables (frame .class) own) (frame .arg) (frame .got)
+  abbrev pub valueHere : Expression → Option ℕ
+  valueHere = valueIn text tables (frame .class) own (frame .arg) (frame .got)
 
   abbrev pub valuedIn : List ℕ → Parsed → Value
-  valuedIn = valued (fieldIn text tables (frame .class) own) (frame .arg) (frame .got)
+  valuedIn = valued valueHere
 
   abbrev pub turnIn : Statement → Turn
-  turnIn = statementTurn text tables (frame .class) (frame .base) (frame .depth) valueIn
+  turnIn = statementTurn text tables (frame .class) (frame .base) (frame .depth) valueHere
 
   -- The turn of an action that was read; a misfit where there is none.
   abbrev pub formedTurn : Option Action → Turn
   formedTurn none = misfit
-  formedTurn (some a) = actionTurn text tables (frame .class) (frame .base) (frame .depth) valueIn a
+  formedTurn (some a) = actionTurn text tables (frame .class) (frame .base) (frame .depth) valueHere a
 
 -- The target t, whose first point is at e, or which has none.
 module _ (text tables : List ℕ) (c : ℕ) (t : List ℕ) (e : ℕ) (h : e ≡ 0 + before (isByte 46) t) where
@@ -123,12 +120,21 @@ module _ (text tables : List ℕ) (c : ℕ) (t : List ℕ) (e : ℕ) (h : e ≡ 
   unfolding targetBody
   target-other l d p m q = rw (first-piece 46 t e h, empty-after 46 t e, lt-leb (length t) e l, p, q)
 
+-- The self-call by what was answered of its body.
+abbrev pub callBy : ℕ → ℕ → Body → Turn
+callBy depth v (Found first end) = cond (leb 8 depth) stop (call first end v)
+callBy depth v Missing = misfit
+
+pub called-by : (depth v : ℕ) (m : Option Member) → callBy depth v (boundsOf m) ≡ callTurn depth m v
+called-by depth v none = refl
+called-by depth v (some m) = refl
+
 -- The field f, found at place k of n.
-module _ (text tables : List ℕ) (frame : Frame) (f : List ℕ) (v k n : ℕ) (e : k ≡ memberPlace (membersOf text tables (frame .class) 0) f) (q : n ≡ memberCount tables (frame .class) 0) where
-  pub set-there : k < n → assign (frame .base + k) v ≡ setTurn text tables frame f v
+module _ (text tables : List ℕ) (c base : ℕ) (f : List ℕ) (v k n : ℕ) (e : k ≡ memberPlace (membersOf text tables c 0) f) (q : n ≡ memberCount tables c 0) where
+  pub set-there : k < n → assign (base + k) v ≡ setTurn text tables c base f v
   unfolding setTurn
   set-there h = rw (← e, ← q, lt-ltb k n h)
 
-  pub set-none : n ≤ k → skip ≡ setTurn text tables frame f v
+  pub set-none : n ≤ k → misfit ≡ setTurn text tables c base f v
   unfolding setTurn
   set-none h = rw (← e, ← q, le-ltb k n h)

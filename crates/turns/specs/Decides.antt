@@ -1,68 +1,98 @@
 -- The turn that is decided, test by test, with names for what the code has read by then.
 use Prim.Native.Nat.{ℕ, _+_, _%_, _≤_, _<_}
-use mathlib.Core.Path.{_≡_}
-use mathlib.Core.Bool.{true, false, _||_}
+use mathlib.Core.Path.{_≡_, refl}
+use mathlib.Core.Bool.{Bool, true, false, _||_}
+use mathlib.Core.Option.{Option, none, some}
 use mathlib.Core.List.{List}
-use native.Mathlib.Numerals.{add-one}
+use native.Mathlib.Omega.{arith}
 use lib.ListN.{getD}
-use lib.Dec.{eqb, leb, ltb, leb·suc-suc}
-use borrow.Author.Tests.{eq-eqb, ne-eqb, lt-ltb, le-ltb, le-leb, lt-leb}
-use Rattle.words.specs.View.{objectCount}
-use Rattle.state.specs.Row.{misfit, stop, back, answer, act, top}
-use Rattle.state.specs.Turn.{objectFrom, nextTurn, lineTurn, endTurn, activationTurn, decided}
+use lib.Dec.{eqb, leb, ltb}
+use borrow.Author.Tests.{eq-eqb, ne-eqb, lt-ltb, le-ltb, ltb-false}
+use Rattle.model.specs.Library.{Member}
+use Rattle.words.specs.View.{objectCount, statementCount}
+use Rattle.state.specs.Row.{Turn, misfit, stop, back, next, answer, act, top}
+use Rattle.state.specs.Turn.{targetThere, objectFrom, nextOn, nextTurn, lineTurn, endTurn, activationTurn, decided}
+use Rattle.words.specs.declared.body.Body.{Body}
+use Rattle.words.specs.declared.body.Body.the-variants.{Found, Missing}
+use Rattle.words.specs.Bodies.{boundsOf}
 
--- An object has ended, and o is the next one.
-module _ (text tables row : List ℕ) (v sum o n : ℕ) (s : sum ≡ (getD row 3 0 + v) % 4294967296)
-    (e : o ≡ objectFrom tables (getD row 5 0) (getD row 6 0) (getD row 4 0 + 1)) (q : n ≡ objectCount tables) where
-  pub end-next : o < n → nextTurn text tables (getD row 7 0) o sum ≡ endTurn text tables row v
+-- The turn to an object by what was answered of its body.
+abbrev pub nextBy : ℕ → ℕ → Body → Turn
+nextBy o sum (Found first end) = next o first end sum
+nextBy o sum Missing = misfit
+
+pub next-by : (o sum : ℕ) (m : Option Member) → nextBy o sum (boundsOf m) ≡ nextOn o sum m
+next-by o sum none = refl
+next-by o sum (some m) = refl
+
+-- An object of the target of kind a and number b has ended.
+module _ (text tables row : List ℕ) (v a b : ℕ) (f : a ≡ getD row 5 0) (g : b ≡ getD row 6 0) where
+  pub end-misfit : targetThere tables a b ≡ false → misfit ≡ endTurn text tables row v
   unfolding endTurn
-  end-next h = rw (← s, ← e, ← q, lt-ltb o n h)
+  end-misfit t = rw (← f, ← g, t)
 
-  pub end-answer : n ≤ o → answer sum ≡ endTurn text tables row v
-  unfolding endTurn
-  end-answer h = rw (← s, ← e, ← q, le-ltb o n h)
+  -- The target is there, and o is the next object.
+  module _ (t : targetThere tables a b ≡ true) (sum o n : ℕ) (s : sum ≡ (getD row 3 0 + v) % 4294967296)
+      (e : o ≡ objectFrom tables a b (getD row 4 0 + 1)) (q : n ≡ objectCount tables) where
+    pub end-next : o < n → nextTurn text tables (getD row 7 0) o sum ≡ endTurn text tables row v
+    unfolding endTurn
+    end-next h = rw (← f, ← g, t, ← s, ← e, ← q, lt-ltb o n h)
 
--- The latest activation is k, at its statement i of those before j; `steps` are done on this object.
-module _ (text tables row values : List ℕ) (k i j steps : ℕ) (p : k ≡ top row) (q : i ≡ act row k 0) (r : j ≡ act row k 1) (x : steps ≡ getD row 2 0) where
-  late : leb 1024 (getD row 2 0 + 1) ≡ leb 1023 steps
-  late = rw (← x, add-one steps) (leb·suc-suc 1023 steps)
+    pub end-answer : n ≤ o → answer sum ≡ endTurn text tables row v
+    unfolding endTurn
+    end-answer h = rw (← f, ← g, t, ← s, ← e, ← q, le-ltb o n h)
 
-  module _ (h : j ≤ i) where
-    pub last-object : k ≡ 0 → (v : ℕ) → v ≡ act row k 4 → endTurn text tables row v ≡ activationTurn text tables row values
-    unfolding activationTurn
-    last-object z v e = rw (← p, ← q, ← r, le-leb j i h, eq-eqb k 0 z, e)
+-- The latest activation is k, at its statement i of those before j; n statements are there, and `steps` are done on this object.
+module _ (text tables row values : List ℕ) (k i j n : ℕ) (p : k ≡ top row) (q : i ≡ act row k 0) (r : j ≡ act row k 1) (u : n ≡ statementCount tables) where
+  pub outside : (ltb j i || ltb n j) ≡ true → misfit ≡ activationTurn text tables row values
+  unfolding activationTurn
+  outside w = rw (← p, ← q, ← r, ← u, w)
 
-    module _ (z : k ≡ 0 → ⊥) where
-      pub last-late : leb 1023 steps ≡ true → stop ≡ activationTurn text tables row values
+  module _ (w : (ltb j i || ltb n j) ≡ false) (steps : ℕ) (x : steps ≡ getD row 2 0) where
+    module _ (h : i ≡ j) where
+      pub last-object : k ≡ 0 → (v : ℕ) → v ≡ act row k 4 → endTurn text tables row v ≡ activationTurn text tables row values
       unfolding activationTurn
-      last-late t = rw (← p, ← q, ← r, le-leb j i h, ne-eqb k 0 z, late, t)
+      last-object z v e = rw (← p, ← q, ← r, ← u, w, eq-eqb i j h, eq-eqb k 0 z, e)
 
-      pub last-back : leb 1023 steps ≡ false → (v : ℕ) → v ≡ act row k 4 → back v ≡ activationTurn text tables row values
+      module _ (z : k ≡ 0 → ⊥) where
+        pub last-late : leb 1024 (steps + 1) ≡ true → stop ≡ activationTurn text tables row values
+        unfolding activationTurn
+        last-late t = rw (← p, ← q, ← r, ← u, w, eq-eqb i j h, ne-eqb k 0 z, ← x, t)
+
+        pub last-back : leb 1024 (steps + 1) ≡ false → (v : ℕ) → v ≡ act row k 4 → back v ≡ activationTurn text tables row values
+        unfolding activationTurn
+        last-back t v e = rw (← p, ← q, ← r, ← u, w, eq-eqb i j h, ne-eqb k 0 z, ← x, t, e)
+
+    module _ (h : i ≡ j → ⊥) where
+      pub more-late : leb 1024 (steps + 1) ≡ true → stop ≡ activationTurn text tables row values
       unfolding activationTurn
-      last-back t v e = rw (← p, ← q, ← r, le-leb j i h, ne-eqb k 0 z, late, t, e)
+      more-late t = rw (← p, ← q, ← r, ← u, w, ne-eqb i j h, ← x, t)
 
-  module _ (h : i < j) where
-    pub more-late : leb 1023 steps ≡ true → stop ≡ activationTurn text tables row values
-    unfolding activationTurn
-    more-late t = rw (← p, ← q, ← r, lt-leb j i h, late, t)
-
-    pub more-line : leb 1023 steps ≡ false → (o d a g : ℕ) → o ≡ getD row 4 0 → d ≡ getD row 1 0 → a ≡ act row k 2 → g ≡ act row k 3
-        → lineTurn text tables values o d i a g ≡ activationTurn text tables row values
-    unfolding activationTurn
-    more-line t o d a g eo ed ea eg = rw (eo, ed, ea, eg, ← p, ← q, ← r, lt-leb j i h, late, t)
+      pub more-line : leb 1024 (steps + 1) ≡ false → (o d a g : ℕ) → o ≡ getD row 4 0 → d ≡ getD row 1 0 → a ≡ act row k 2 → g ≡ act row k 3
+          → lineTurn text tables values o d i a g ≡ activationTurn text tables row values
+      unfolding activationTurn
+      more-line t o d a g eo ed ea eg = rw (eo, ed, ea, eg, ← p, ← q, ← r, ← u, w, ne-eqb i j h, ← x, t)
 
 -- The message is on object o of n.
 module _ (text tables row values : List ℕ) (n o : ℕ) (p : n ≡ objectCount tables) (q : o ≡ getD row 4 0) where
-  pub decided-answer : n ≤ o → answer (getD row 3 0) ≡ decided text tables row values
+  pub decided-answer : o ≡ n → answer (getD row 3 0) ≡ decided text tables row values
   unfolding decided
-  decided-answer h = rw (← p, ← q, le-leb n o h)
+  decided-answer h = rw (← p, ← q, eq-eqb o n h)
 
   -- It has d activations.
-  module _ (h : o < n) (d : ℕ) (r : d ≡ getD row 1 0) where
-    pub decided-misfit : (eqb d 0 || ltb 8 d) ≡ true → misfit ≡ decided text tables row values
+  module _ (h : o ≡ n → ⊥) (d : ℕ) (r : d ≡ getD row 1 0) where
+    pub decided-misfit : (ltb n o || eqb d 0 || ltb 8 d) ≡ true → misfit ≡ decided text tables row values
     unfolding decided
-    decided-misfit t = rw (← p, ← q, ← r, lt-leb n o h, t)
+    decided-misfit t = rw (← p, ← q, ← r, ne-eqb o n h, t)
 
-    pub decided-on : (eqb d 0 || ltb 8 d) ≡ false → activationTurn text tables row values ≡ decided text tables row values
+    pub decided-on : (ltb n o || eqb d 0 || ltb 8 d) ≡ false → activationTurn text tables row values ≡ decided text tables row values
     unfolding decided
-    decided-on t = rw (← p, ← q, ← r, lt-leb n o h, t)
+    decided-on t = rw (← p, ← q, ← r, ne-eqb o n h, t)
+
+-- Past those tests the object is one of n.
+pub decided-within : (n o d : ℕ) → (o ≡ n → ⊥) → (ltb n o || eqb d 0 || ltb 8 d) ≡ false → o < n
+decided-within n o d h t = let l = ltb-false n o (first (ltb n o) (eqb d 0) (ltb 8 d) t) in omega arith
+  where
+    first : (a b c : Bool) → (a || b || c) ≡ false → a ≡ false
+    first true b c e = e
+    first false b c e = refl

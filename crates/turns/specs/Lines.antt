@@ -1,7 +1,7 @@
 -- The turn of a line, from its form to what the code reads: its keyword, the words up to its expressions, and their values.
-use Prim.Native.Nat.{ℕ, _+_, _-_, _≤_, _<_}
+use Prim.Native.Nat.{ℕ, _+_, _-_, _/_, _%_, _≤_, _<_}
 use mathlib.Core.Path.{_≡_, refl, sym, _∙_}
-use mathlib.Core.Bool.{Bool, true, false, not, cond, _||_, _&&_}
+use mathlib.Core.Bool.{Bool, true, false, cond, _||_, _&&_}
 use mathlib.Core.Option.{Option, none, some}
 use mathlib.Core.List.{List, [], _∷_}
 use native.Mathlib.Omega.{arith}
@@ -17,21 +17,26 @@ use Rattle.model.specs.Form.{Action, assign, send, sendPrefixed, reply, Form, c
 use Rattle.model.specs.Form.{keywordOf, whole, given, sendTo, actionOf, statementForm, whenForm, formAs, formOf}
 use Rattle.lex.specs.Tests.{and-false}
 use Rattle.lex.specs.Scan.{isByte, before}
-use Rattle.lex.specs.Piece.{wordsAfter, first, others, isEmpty, first-piece, empty-after}
+use Rattle.lex.specs.Piece.{wordsAfter, span, first, others, isEmpty, first-piece, empty-after}
 use Rattle.syntax.specs.Reading.{Left, tail-after, left-behind}
 use Rattle.syntax.specs.Kinds.{kindOf, isTarget, fits, kindBy, kind-as, and-yes}
-use Rattle.words.specs.View.{partOf, statementWord, classCount, statementCount, memberCount}
+use Rattle.words.specs.View.{partOf, statementWord, classCount, memberCount}
 use Rattle.words.specs.View as View
 use Rattle.evaluate.specs.declared.Value.the-variants.{Found, Nothing}
-use Rattle.evaluate.specs.Valued.{value-placed}
+use Rattle.evaluate.specs.Valued.{found-value, not-found, value-placed}
 use Rattle.state.specs.Row.{Turn, misfit, skip}
-use Rattle.state.specs.Turn.{fieldIn, callTurn, actionTurn, formTurn, lineTurn}
+use Rattle.state.specs.Turn.{setTurn, withValue, callTurn, actionTurn, formTurn, lineTurn}
 use Rattle.turns.specs.declared.line.Frame.{Frame}
-use Rattle.turns.specs.Actions.{isWhen, isBegun, skipped, targetBody, setTurn, actedTurn, skippedTurn, valueIn, valuedIn, turnIn, formedTurn}
+use Rattle.turns.specs.Actions.{isWhen, isBegun, skipped, targetBody, actedTurn, skippedTurn, valueHere, valuedIn, turnIn, formedTurn}
+
+-- A test between two misfits.
+either-misfit : (t : Bool) → misfit ≡ cond t misfit misfit
+either-misfit true = refl
+either-misfit false = refl
 
 module _ (text tables own : List ℕ) (frame : Frame) where
-  abbrev value : Expression → ℕ
-  value = valueIn text tables own frame
+  abbrev value : Expression → Option ℕ
+  value = valueHere text tables own frame
 
   abbrev formed : Option Action → Turn
   formed = formedTurn text tables own frame
@@ -43,10 +48,10 @@ module _ (text tables own : List ℕ) (frame : Frame) where
 
   -- The turn by the value of an expression that takes all the words.
   abbrev wholeTurn : (ℕ → Turn) → Parsed → Turn
-  wholeTurn turn (parsed e ws) = cond (isEmpty ws) (turn (value e)) misfit
+  wholeTurn turn (parsed e ws) = cond (isEmpty ws) (withValue (value e) turn) misfit
   wholeTurn turn unread = misfit
 
-  whole-turn : (t : Bool) (act : Expression → Action) (turn : ℕ → Turn) (p : Parsed) → ((e : Expression) → formed (some (act e)) ≡ turn (value e))
+  whole-turn : (t : Bool) (act : Expression → Action) (turn : ℕ → Turn) (p : Parsed) → ((e : Expression) → formed (some (act e)) ≡ withValue (value e) turn)
       → formed (given t (whole act p)) ≡ cond t (wholeTurn turn p) misfit
   whole-turn false act turn p h = refl
   whole-turn true act turn (parsed e []) h = h e
@@ -93,21 +98,22 @@ module _ (text tables own : List ℕ) (frame : Frame) where
   plain-turn none = refl
   plain-turn (some a) = refl
 
-  -- The turn of an action behind a guard of value v.
-  abbrev guarded : ℕ → Option Action → Turn
-  guarded v a = cond (eqb v 0) (skippedTurn a) (formed a)
+  -- The turn of an action behind a guard of a value, if it has one.
+  abbrev guarded : Option ℕ → Option Action → Turn
+  guarded none a = misfit
+  guarded (some v) a = cond (eqb v 0) (skippedTurn a) (formed a)
 
   guard-turn : (e : Expression) (a : Option Action) → turnOf (statementForm (some e) a) ≡ guarded (value e) a
-  guard-turn e none = go (eqb (value e) 0)
+  guard-turn e none = go (value e)
     where
-      go : (t : Bool) → misfit ≡ cond t misfit misfit
-      go true = refl
-      go false = refl
-  guard-turn e (some a) = go (eqb (value e) 0)
+      go : (x : Option ℕ) → misfit ≡ guarded x none
+      go none = refl
+      go (some v) = either-misfit (eqb v 0)
+  guard-turn e (some a) = go (value e)
     where
-      go : (t : Bool) → cond (not t) (formed (some a)) skip ≡ cond t skip (formed (some a))
-      go true = refl
-      go false = refl
+      go : (x : Option ℕ) → withValue x (λ v. cond (eqb v 0) skip (formed (some a))) ≡ guarded x (some a)
+      go none = refl
+      go (some v) = refl
 
   when-turn : (e : Expression) (ws : List (List ℕ)) → turnOf (whenForm (parsed e ws)) ≡ guarded (value e) (actionOf (keywordOf (first ws)) (others ws))
   unfolding keywordOf actionOf same
@@ -162,19 +168,19 @@ module _ (text tables own : List ℕ) (frame : Frame) where
     whole-found : (turn : ℕ → Turn) (p : Parsed) (v m : ℕ) → Left s m p → Found v m ≡ valuedIn text tables own frame s p
         → cond (leb (length s) m) (turn v) misfit ≡ wholeTurn turn p
     whole-found turn unread v m l q = absurd l
-    whole-found turn (parsed e ws) v m l q = let k : v ≡ value e = cc in rw (k, l .1, empty-after 32 s m)
+    whole-found turn (parsed e ws) v m l q = rw (found-value (value e) (length s - span ws) v m q .0, l .1, empty-after 32 s m)
 
     whole-none : (turn : ℕ → Turn) (p : Parsed) → Nothing ≡ valuedIn text tables own frame s p → misfit ≡ wholeTurn turn p
-    whole-none turn (parsed e ws) q = cc
+    whole-none turn (parsed e ws) q = rw (not-found (value e) (length s - span ws) q) (either-misfit (isEmpty ws))
     whole-none turn unread q = refl
 
     guard-found : (p : Parsed) (v m : ℕ) → Left s m p → Found v m ≡ valuedIn text tables own frame s p
-        → guarded v (actionOf (keywordOf (first (wordsAfter (drop m s)))) (others (wordsAfter (drop m s)))) ≡ turnOf (whenForm p)
+        → guarded (some v) (actionOf (keywordOf (first (wordsAfter (drop m s)))) (others (wordsAfter (drop m s)))) ≡ turnOf (whenForm p)
     guard-found unread v m l q = absurd l
-    guard-found (parsed e ws) v m l q = let k : v ≡ value e = cc in rw (k, ← l .1) (sym (when-turn e ws))
+    guard-found (parsed e ws) v m l q = rw (← l .1) (sym (when-turn e ws ∙ rw (found-value (value e) (length s - span ws) v m q .0)))
 
     guard-unread : (p : Parsed) → Nothing ≡ valuedIn text tables own frame s p → misfit ≡ turnOf (whenForm p)
-    guard-unread (parsed e ws) q = cc
+    guard-unread (parsed e ws) q = sym (when-turn e ws ∙ rw (not-found (value e) (length s - span ws) q))
     guard-unread unread q = refl
 
     -- The expression behind the place i.
@@ -184,7 +190,7 @@ module _ (text tables own : List ℕ) (frame : Frame) where
 
       left-there : (v m : ℕ) → Found v m ≡ valuedIn text tables own frame s read → Left s m read
       left-there v m q =
-          left-behind s read m (tail-after s 9 i) (value-placed (fieldIn text tables (frame .class) own) (frame .arg) (frame .got) s read v m q)
+          left-behind s read m (tail-after s 9 i) (value-placed value s read v m q)
 
       -- It is the expression of an action: behind the keyword k stand the words ws.
       module _ (k : Keyword) (ws : List (List ℕ)) (b : isBegun k ws ≡ true) (h : wordsAfter (drop i s) ≡ skipped k ws) where
@@ -212,7 +218,7 @@ module _ (text tables own : List ℕ) (frame : Frame) where
       -- Its value is v, and behind its end m stand a word of the keyword k and the words ws.
       module _ (v m : ℕ) (q : Found v m ≡ valuedIn text tables own frame s read)
           (k : Keyword) (e : k ≡ keywordOf (first (wordsAfter (drop m s)))) (ws : List (List ℕ)) (r : ws ≡ others (wordsAfter (drop m s))) where
-        guard-there : guarded v (actionOf k ws) ≡ turnOf (whenForm read)
+        guard-there : guarded (some v) (actionOf k ws) ≡ turnOf (whenForm read)
         guard-there = rw (e, r) (guard-found read v m (left-there v m q) q)
 
         pub guard-skips : v ≡ 0 → skippedTurn (actionOf k ws) ≡ turnOf (whenForm read)
@@ -221,24 +227,26 @@ module _ (text tables own : List ℕ) (frame : Frame) where
         pub guard-passes : (v ≡ 0 → ⊥) → formed (actionOf k ws) ≡ turnOf (whenForm read)
         guard-passes h = rw (← guard-there, ne-eqb v 0 h)
 
--- ---- the statement s on object o; n statements and m classes are there
+-- ---- the statement s on object o, at the place that w says; n classes are there
 
-module _ (text tables values : List ℕ) (o depth s arg got c base size n m : ℕ) (p : c ≡ View.objectWord tables o 1) (q : base ≡ View.objectWord tables o 2)
-    (r : size ≡ memberCount tables c 0) (u : n ≡ statementCount tables) (v : m ≡ classCount tables) where
-  pub line-misfit : (leb n s || leb m c || ltb (length values) (base + size)) ≡ true → misfit ≡ lineTurn text tables values o depth s arg got
+module _ (text tables values : List ℕ) (o depth s arg got c base size n w : ℕ) (p : c ≡ View.objectWord tables o 1) (q : base ≡ View.objectWord tables o 2)
+    (r : size ≡ memberCount tables c 0) (u : n ≡ classCount tables) (v : w ≡ statementWord tables s) where
+  pub line-misfit : (leb n c || ltb (length values) (base + size) || ltb (length text) (w / 65536 + w % 65536)) ≡ true
+      → misfit ≡ lineTurn text tables values o depth s arg got
   unfolding lineTurn
   line-misfit h = rw (← p, ← q, ← r, ← u, ← v, h)
 
-  pub line-fits : (leb n s || leb m c || ltb (length values) (base + size)) ≡ false → (l : List ℕ) → l ≡ partOf text (statementWord tables s)
+  pub line-fits : (leb n c || ltb (length values) (base + size) || ltb (length text) (w / 65536 + w % 65536)) ≡ false → (l : List ℕ) → l ≡ partOf text w
       → formTurn (formOf (words l)) (turnIn text tables (take (base + size - base) (drop base values)) (record { class = c; base = base; depth = depth; arg = arg; got = got }))
       ≡ lineTurn text tables values o depth s arg got
   unfolding lineTurn
   line-fits h l e = let d : base + size - base ≡ size = omega arith in rw (← p, ← q, ← r, ← u, ← v, h, e, d)
 
 -- Past those tests the values are there.
-pub values-there : (n s m c l e : ℕ) → (leb n s || leb m c || ltb l e) ≡ false → e ≤ l
-values-there n s m c l e h = ltb-false l e (right (leb n s || leb m c) h)
+pub values-there : (n c l e i j : ℕ) → (leb n c || ltb l e || ltb i j) ≡ false → e ≤ l
+values-there n c l e i j h = ltb-false l e (middle (leb n c) (ltb l e) h)
   where
-    right : (t : Bool) → (t || ltb l e) ≡ false → ltb l e ≡ false
-    right true h = cc
-    right false h = h
+    middle : (t u : Bool) → (t || u || ltb i j) ≡ false → u ≡ false
+    middle true u h = cc
+    middle false true h = h
+    middle false false h = refl

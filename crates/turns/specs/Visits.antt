@@ -1,14 +1,14 @@
--- The objects that a message visits, as a loop over their numbers meets them, and the bit of a domain's mask.
-use Prim.Native.Nat.{ℕ, zero, suc, _+_, _-_, _*_, _/_, _%_, _^_, _≤_, _<_}
-use mathlib.Core.Path.{_≡_, refl, sym, ap, _∙_}
-use mathlib.Core.Bool.{Bool, true, false, cond}
+-- The objects that a message visits, as a loop over their numbers meets them, and the tests of a target.
+use Prim.Native.Nat.{ℕ, zero, suc, _+_, _-_, _≤_, _<_}
+use mathlib.Core.Path.{_≡_, refl, sym, _∙_}
+use mathlib.Core.Bool.{Bool, true, false, cond, _&&_}
+use mathlib.Core.List.{List}
 use native.Mathlib.Numerals.{add-one}
 use native.Mathlib.Omega.{arith}
-use lib.Dec.{eqb}
-use lib.Pow.{pow-mono, high}
-use borrow.Author.Tests.{eqb-true, eqb-false, ne-eqb}
-use Rattle.words.specs.View.{bit}
-use Rattle.state.specs.Turn.{firstFrom}
+use lib.Dec.{eqb, leb, ltb}
+use borrow.Author.Tests.{eqb-true, eqb-false, eq-eqb, ne-eqb, le-leb, lt-leb}
+use Rattle.words.specs.View.{classWord, objectWord, classCount, objectCount, bit}
+use Rattle.state.specs.Turn.{targetThere, inTarget, firstFrom}
 
 -- The loop at number i of n: at one that is visited, at one that is not, at the end.
 module _ (p : ℕ → Bool) (n i : ℕ) where
@@ -45,11 +45,34 @@ one-none m (suc k) i out =
     let s : suc i + k ≡ i + suc k = omega arith in
     rw e (one-none m k (suc i) (λ g h. out (omega arith) (omega arith)) ∙ s)
 
--- A word has no bit past its 32.
-pub bit-past : (m d : ℕ) → m < 2 ^ 32 → 32 ≤ d → bit m d ≡ false
-unfolding bit
-bit-past m d h k =
-    let s : m ≡ 0 * 2 ^ d + m = omega arith in
-    let l : m < 2 ^ d = omega (arith, pow-mono {i = 32} {j = d} k) in
-    let z : m / 2 ^ d ≡ 0 = ap (λ (x : ℕ). x / 2 ^ d) s ∙ high 0 d l in
-    ap (λ (x : ℕ). eqb (x % 2) 1) z
+-- ---- targets
+
+-- The target of kind k and number m is there.
+module _ (tables : List ℕ) (k m : ℕ) where
+  pub there-object : k ≡ 0 → (n : ℕ) → n ≡ objectCount tables → ltb m n ≡ targetThere tables k m
+  unfolding targetThere
+  there-object h n e = rw (eq-eqb k 0 h, e)
+
+  pub there-class : (k ≡ 0 → ⊥) → (n : ℕ) → n ≡ classCount tables → (leb k 2 && ltb m n) ≡ targetThere tables k m
+  unfolding targetThere
+  there-class h n e = rw (ne-eqb k 0 h, e)
+
+-- Object o is in the target of kind k and number m.
+module _ (tables : List ℕ) (k m o : ℕ) where
+  pub target-object : k ≡ 0 → eqb o m ≡ inTarget tables k m o
+  unfolding inTarget
+  target-object h = rw (eq-eqb k 0 h)
+
+  -- It is of class c; n classes are there.
+  module _ (h : k ≡ 0 → ⊥) (c n : ℕ) (e : c ≡ objectWord tables o 1) (q : n ≡ classCount tables) where
+    pub target-lost : n ≤ c → true ≡ inTarget tables k m o
+    unfolding inTarget
+    target-lost l = rw (ne-eqb k 0 h, ← e, ← q, le-leb n c l)
+
+    pub target-class : c < n → k ≡ 1 → eqb c m ≡ inTarget tables k m o
+    unfolding inTarget
+    target-class l g = rw (ne-eqb k 0 h, ← e, ← q, lt-leb n c l, eq-eqb k 1 g)
+
+    pub target-domain : c < n → (k ≡ 1 → ⊥) → (mask : ℕ) → mask ≡ classWord tables m 5 → bit mask c ≡ inTarget tables k m o
+    unfolding inTarget
+    target-domain l g mask x = rw (ne-eqb k 0 h, ← e, ← q, lt-leb n c l, ne-eqb k 1 g, x)

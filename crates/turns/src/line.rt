@@ -1,11 +1,11 @@
 // The turn of a statement, read from its line; a line that is no statement is a misfit. Whether it is one shows as its turn is
 // found, so that each expression is read once.
-use super::body::Body;
-use super::body::body_in;
 use evaluate::Value;
 use rows::Turn;
 use syntax::keyword::Keyword;
 use syntax::keyword::keyword_of;
+use words::body::Body;
+use words::body::body_in;
 ghost use mathlib.Core.Path.{_≡_};
 ghost use lib.ListN.{drop};
 ghost use Rattle.model.specs.Text.{pieces, words};
@@ -13,10 +13,10 @@ ghost use Rattle.model.specs.Expression.{expression};
 ghost use Rattle.model.specs.Form.{actionOf, whenForm, formOf};
 ghost use Rattle.lex.specs.Piece.{wordsAfter};
 ghost use Rattle.syntax.specs.Keywords.{saidKeyword};
-ghost use Rattle.state.specs.Turn.{callTurn, formTurn, lineTurn};
+ghost use Rattle.state.specs.Turn.{setTurn, callTurn, formTurn, lineTurn};
 ghost use Rattle.rows.specs.Carried.{saidTurn};
-ghost use Rattle.turns.specs.Bodies.{Bounds};
-ghost use Rattle.turns.specs.Actions.{isWhen, isToSelf, isBegun, skipped, targetBody, setTurn, actedTurn, skippedTurn, valuedIn, turnIn, formedTurn};
+ghost use Rattle.words.specs.Bodies.{boundsOf};
+ghost use Rattle.turns.specs.Actions.{isWhen, isToSelf, isBegun, skipped, targetBody, actedTurn, skippedTurn, valuedIn, turnIn, formedTurn};
 
 const FIELDS: u32 = 0;
 
@@ -36,7 +36,7 @@ pub struct Frame {
 
 // The body that `M` names in a class, or `C.M` in the class C.
 fn target_body(text: &[u8], tables: &[u32], class: u32, target: &[u8]) -> Body
-    ensures { λ r. ⌜ Bounds (targetBody (now (text .entry)) (now (tables .entry)) class (pieces 46 (now (target .entry)))) (r .first) (r .end) ⌝ }
+    ensures { λ r. ⌜ r ≡ boundsOf (targetBody (now (text .entry)) (now (tables .entry)) class (pieces 46 (now (target .entry)))) ⌝ }
 {
     let point = lex::piece_end(target, 0, POINT);
     if target.len() <= point {
@@ -47,26 +47,31 @@ fn target_body(text: &[u8], tables: &[u32], class: u32, target: &[u8]) -> Body
     }
 }
 
-// A self-call, unless it would be the ninth activation.
+// A self-call, unless it would be the ninth activation; Misfit where there is no such body.
 fn call_turn(text: &[u8], tables: &[u32], frame: Frame, target: &[u8], value: u32) -> Turn
     ensures { λ r. ⌜ saidTurn r ≡ callTurn (frame .depth) (targetBody (now (text .entry)) (now (tables .entry)) (frame .class) (pieces 46 (now (target .entry)))) value ⌝ }
 {
-    if 8 <= frame.depth {
-        return Turn::Stop;
-    }
     let body = target_body(text, tables, frame.class, target);
-    Turn::Call(body.first, body.end, value)
+    match body {
+        Body::Found(first, end) => {
+            if 8 <= frame.depth {
+                return Turn::Stop;
+            }
+            Turn::Call(first, end, value)
+        }
+        Body::Missing => Turn::Misfit,
+    }
 }
 
-// A field of the object becomes the value; nothing where its class has no such field.
+// A field of the object becomes the value; Misfit where its class has no such field.
 fn set_turn(text: &[u8], tables: &[u32], frame: Frame, name: &[u8], value: u32) -> Turn
-    ensures { λ r. ⌜ saidTurn r ≡ setTurn (now (text .entry)) (now (tables .entry)) frame (now (name .entry)) value ⌝ }
+    ensures { λ r. ⌜ saidTurn r ≡ setTurn (now (text .entry)) (now (tables .entry)) (frame .class) (frame .base) (now (name .entry)) value ⌝ }
 {
     let field = words::find(text, tables, frame.class, FIELDS, name);
     if field < words::member_count(tables, frame.class, FIELDS) {
         Turn::Assign(frame.base as usize + field as usize, value)
     } else {
-        Turn::Skip
+        Turn::Misfit
     }
 }
 
@@ -177,7 +182,7 @@ fn value_behind(
     )
 }
 
-// The turn of an action whose keyword ends at `at`; Misfit where the words are no action.
+// The turn of an action whose keyword ends at `at`; Misfit where the words are no action, or its expression has no value.
 fn words_turn(
     text: &[u8],
     tables: &[u32],
@@ -217,7 +222,8 @@ fn skipped_turn(keyword: Keyword, line: &[u8], at: usize) -> Turn
     }
 }
 
-// The turn of a statement whose `when` ends at `at`; Misfit where the words are no statement.
+// The turn of a statement whose `when` ends at `at`; Misfit where the words are no statement, or an expression that is asked for
+// has no value.
 fn guarded_turn(
     text: &[u8],
     tables: &[u32],
@@ -273,7 +279,8 @@ fn statement_turn(text: &[u8], tables: &[u32], own: &[u32], frame: Frame, line: 
     }
 }
 
-// The turn of a statement on an object; Misfit where the statement, the object's class or its values are not there.
+// The turn of a statement on an object; Misfit where the object's class or values, or the statement's place in the text, are
+// not there.
 pub fn line_turn(
     text: &[u8],
     tables: &[u32],
@@ -290,13 +297,13 @@ pub fn line_turn(
     let base = words::object_word(tables, object, 2);
     let start = base as usize;
     let end = start + words::member_count(tables, class, FIELDS) as usize;
-    if (words::statement_count(tables) <= statement)
-        | (words::class_count(tables) <= class)
+    let place = words::get(tables, 3976 + statement as usize);
+    if (words::class_count(tables) <= class)
         | (values.len() < end)
+        | (text.len() < (place / 65536 + place % 65536) as usize)
     {
         return Turn::Misfit;
     }
-    let line = words::part_of(text, words::get(tables, 3976 + statement as usize));
     let frame = Frame {
         class,
         base,
@@ -304,5 +311,6 @@ pub fn line_turn(
         arg,
         got,
     };
+    let line = words::part_of(text, place);
     statement_turn(text, tables, &values[start..end], frame, line)
 }

@@ -2,32 +2,34 @@
 ghost use Prim.Native.Nat.{_-_};
 ghost use mathlib.Core.Path.{_≡_};
 ghost use lib.Dec.{eqb};
-ghost use Rattle.words.specs.View.{bit};
-ghost use Rattle.state.specs.Turn.{inTarget, firstFrom, objectFrom};
+ghost use Rattle.state.specs.Turn.{targetThere, inTarget, firstFrom, objectFrom};
 
-// The mask has the bit; no mask has one past its 32.
-pub fn has_bit(mask: u32, place: u32) -> bool
-    ensures { λ r. ⌜ r ≡ bit mask place ⌝ }
+// The target of that kind and number is there: an object, or a class.
+pub fn target_there(tables: &[u32], kind: u32, number: u32) -> bool
+    ensures { λ r. ⌜ r ≡ targetThere (now (tables .entry)) kind number ⌝ }
 {
-    if place < 32 {
-        (mask >> place) % 2 == 1
-    } else {
-        false
+    if kind == 0 {
+        return number < words::object_count(tables);
     }
+    (kind <= 2) & (number < words::class_count(tables))
 }
 
-// The object is one of those that a message to a target of that kind and number visits.
+// The object is one of those that a message to a target of that kind and number visits. One whose class is not there counts too,
+// and fits no turn.
 fn in_target(tables: &[u32], kind: u32, number: u32, object: u32) -> bool
     ensures { λ r. ⌜ r ≡ inTarget (now (tables .entry)) kind number object ⌝ }
 {
-    let class = words::object_word(tables, object, 1);
     if kind == 0 {
         return object == number;
+    }
+    let class = words::object_word(tables, object, 1);
+    if words::class_count(tables) <= class {
+        return true;
     }
     if kind == 1 {
         return class == number;
     }
-    has_bit(words::class_word(tables, number, 5), class)
+    words::has_bit(words::class_word(tables, number, 5), class)
 }
 
 // The number itself, if it is one of those from `from` up to `end`; else `end`, or `from` past that.

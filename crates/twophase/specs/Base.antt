@@ -3,7 +3,7 @@
 use Prim.Native.Nat.{ℕ, zero, suc, _≤_, _<_}
 use native.Mathlib.Decide.{ℕ-discrete, decLt}
 use native.Mathlib.Omega.{arith}
-use mathlib.Core.Path.{_≡_, refl, sym, subst, fun-ext}
+use mathlib.Core.Path.{_≡_, refl, sym, subst, _∙_, fun-ext}
 use mathlib.Core.Bool.{Bool, true, false, cond}
 use mathlib.Core.Option.{Option, none, some, orElse}
 use mathlib.Core.List.{List, [], _∷_, _++_}
@@ -78,6 +78,18 @@ least-none p (suc n) e k below = go (least-none p n) (least p n) refl (p n) refl
     go before (some j) q b r e′ = cc
     go before none q true r e′ = cc
     go before none q false r e′ = at-or (λ j. j < suc n → p j ≡ false) n (λ w. r) (λ j ne w. before q j (omega arith)) k below
+
+-- Where there is one, it is below n, and p holds of it.
+pub least-some : (p : ℕ → Bool) (n k : ℕ) → least p n ≡ some k → (k < n) × (p k ≡ true)
+unfolding least orElse
+least-some p zero k e = let z : _≡_ {A = ℕ} 0 1 = cc in absurd (omega arith)
+least-some p (suc n) k e = go (least-some p n k) (least p n) refl (p n) refl e
+  where
+    go : (least p n ≡ some k → (k < n) × (p k ≡ true)) → (o : Option ℕ) → least p n ≡ o → (b : Bool) → p n ≡ b
+        → orElse o (cond b (some n) none) ≡ some k → (k < suc n) × (p k ≡ true)
+    go before (some j) q b r e′ = let h = before (q ∙ e′) in (omega (arith, h .0), h .1)
+    go before none q true r e′ = let z : n ≡ k = cc in (omega arith, subst (λ (j : ℕ). p j ≡ true) z r)
+    go before none q false r e′ = let z : _≡_ {A = ℕ} 0 1 = cc in absurd (omega arith)
 
 -- ---- lists
 

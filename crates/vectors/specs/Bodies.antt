@@ -1,18 +1,24 @@
 -- The body of a vertex as the tables hold it: a run of statements, which ends with the last one of the text.
-use Prim.Native.Nat.{ℕ, _+_, _-_, _*_, _/_, _%_, min, _≤_, _<_}
-use mathlib.Core.Path.{_≡_, sym, ap, _∙_}
+use Prim.Native.Nat.{ℕ, _+_, _-_, _*_, _/_, _%_, min}
+use native.Mathlib.Omega.{arith}
+use mathlib.Core.Path.{_≡_, refl, sym, ap, _∙_}
+use mathlib.Core.Bool.{Bool, true, false, cond}
+use mathlib.Core.Option.{none, some}
 use mathlib.Core.List.{List, map}
-use lib.ListN.{take, drop}
+use lib.ListN.{take, drop, List·getD-eq-default}
 use Rattle.model.specs.Base.{upto}
 use Rattle.model.specs.Word.{Name}
 use Rattle.model.specs.Form.{Statement}
-use Rattle.model.specs.Library.{Member, Placed, classAt, member, byFirstParent, statementsOf, bodyOf}
-use Rattle.words.specs.View.{classWord, statementWord, statementCount, memberAt, placedOf, libraryOf, partOf, nameOf}
+use Rattle.model.specs.Library.{Member, Placed, noMember, classAt, member, among, byFirstParent, statementsOf, bodyOf}
+use Rattle.theory.specs.Lookup.{place-unknown}
+use Rattle.words.specs.View.{classWord, statementWord, statementCount, placedOf, libraryOf, partOf, nameOf}
+use Rattle.words.specs.Bodies as Look
+use Rattle.words.specs.Bodies.{boundsOf}
+use Rattle.words.specs.declared.body.Body.the-variants.{Found, Missing}
 use Rattle.footprints.specs.Fields.{map-upto}
-use Rattle.footprints.specs.Calls.{numberOf}
 use Rattle.footprints.specs.Lines.{statementOf}
 use Rattle.vectors.specs.Lists.{run-upto}
-use Rattle.vectors.specs.Nodes.{nodeAt, bodyIn, number-known, number-unknown, member-known, member-unknown}
+use Rattle.vectors.specs.Nodes.{nodeAt, bodyIn}
 
 -- Statement i of a run that begins with the text's statement `first`.
 abbrev pub statementAt : List ℕ → List ℕ → ℕ → ℕ → Statement
@@ -34,41 +40,50 @@ module _ (text ws : List ℕ) where
   unfolding placedOf
   line-says-it first i line e = ap statementOf e
 
--- The word of a member's body.
-pub record BodyWord (m : Member) (w : ℕ) : Type 0 where
-  pub first : m .first ≡ w / 64
-  pub count : m .count ≡ w % 64
+-- The statements from one up to another, as many of them as the text has.
+pub record Cut (ws : List ℕ) (first end at size : ℕ) : Type 0 where
+  pub at-is : at ≡ first
+  pub size-is : size ≡ min (end - first) (statementCount ws - first)
 
-module _ (text ws : List ℕ) (c : ℕ) (n : Name) (x : ℕ) (e : x ≡ numberOf (libraryOf text ws) (record { class = c; method = n })) where
+-- The method of that name in class c, where it is written.
+module _ (text ws : List ℕ) (c : ℕ) (n : Name) where
   abbrev methods : List Member
-  methods = classAt (libraryOf text ws) c .methods
+  methods = classAt (libraryOf text ws) (byFirstParent (libraryOf text ws) c n) .methods
 
-  pub word-known : (w : ℕ) → x < 512 → w ≡ classWord ws c (40 + (1 * 64 + x % 32)) → BodyWord (member methods n) w
-  unfolding memberAt
-  word-known w h q =
-      let m = member-known text ws c n x (number-known text ws c n x e h) in
-      record {
-        first = ap (λ (k : Member). k .first) m ∙ ap (λ (b : ℕ). b / 64) (sym q);
-        count = ap (λ (k : Member). k .count) m ∙ ap (λ (b : ℕ). b % 64) (sym q);
-      }
+  abbrev written : Member
+  written = member methods n
 
-  pub word-unknown : 512 ≤ x → BodyWord (member methods n) 0
-  word-unknown h =
-      let m = member-unknown text ws c n (number-unknown text ws c n x e h) in
-      record { first = ap (λ (k : Member). k .first) m; count = ap (λ (k : Member). k .count) m }
+  found-written : (first end : ℕ) → Found first end ≡ boundsOf (Look.bodyIn text ws c n) → (written .first ≡ first) × (written .count ≡ end - first)
+  unfolding Look.bodyIn
+  found-written first end = go (among methods n)
+    where
+      go : (t : Bool) → Found first end ≡ boundsOf (cond t (some written) none) → (written .first ≡ first) × (written .count ≡ end - first)
+      go true q =
+          let a : written .first ≡ first = cc in
+          let b : end ≡ written .first + written .count = cc in
+          (a, omega arith)
+      go false q = let z : _≡_ {A = ℕ} 0 1 = cc in absurd (omega arith)
 
--- The body of a vertex: its name, the class whose writing it is, and the run that is written there.
-pub body-found : (text ws : List ℕ) (node w : ℕ) (name : Name) (origin word size : ℕ)
-    → w ≡ classWord ws (node / 32) (8 + (1 * 64 + node % 32))
-    → name ≡ nameOf text w
-    → origin ≡ byFirstParent (libraryOf text ws) (node / 32) name
-    → BodyWord (member (classAt (libraryOf text ws) origin .methods) name) word
-    → size ≡ min (word % 64) (statementCount ws - word / 64)
-    → bodyIn text ws node ≡ upto (statementAt text ws (word / 64)) size
-unfolding bodyOf nodeAt
-body-found text ws node w name origin word size q e o b k =
-    let l = libraryOf text ws in
-    let m = member (classAt l origin .methods) name in
-    ap (λ (n : Name). bodyOf l (byFirstParent l) (node / 32) n) (sym (e ∙ ap (nameOf text) q))
-    ∙ ap (λ (d : ℕ). statementsOf l (member (classAt l d .methods) name)) (sym o)
-    ∙ statements-upto text ws m (word / 64) size (b .first) (k ∙ ap (λ (n : ℕ). min n (statementCount ws - word / 64)) (sym (b .count)))
+  none-written : Missing ≡ boundsOf (Look.bodyIn text ws c n) → written ≡ noMember
+  unfolding Look.bodyIn
+  none-written = go (among methods n) refl
+    where
+      go : (t : Bool) → among methods n ≡ t → Missing ≡ boundsOf (cond t (some written) none) → written ≡ noMember
+      go true e q = let z : _≡_ {A = ℕ} 0 1 = cc in absurd (omega arith)
+      go false e q = unfold member in List·getD-eq-default methods noMember (omega (arith, place-unknown methods n e))
+
+-- The body of a vertex: the run that is found for its name, or none.
+module _ (text ws : List ℕ) (node w : ℕ) (name : Name) (q : w ≡ classWord ws (node / 32) (8 + (1 * 64 + node % 32))) (e : name ≡ nameOf text w) where
+  body-is : bodyIn text ws node ≡ statementsOf (libraryOf text ws) (written text ws (node / 32) name)
+  unfolding bodyOf nodeAt
+  body-is = ap (λ (n : Name). bodyOf (libraryOf text ws) (byFirstParent (libraryOf text ws)) (node / 32) n) (sym (e ∙ ap (nameOf text) q))
+
+  pub body-found : (first end at size : ℕ) → Found first end ≡ boundsOf (Look.bodyIn text ws (node / 32) name) → Cut ws first end at size
+      → bodyIn text ws node ≡ upto (statementAt text ws at) size
+  body-found first end at size f k =
+      let m = found-written text ws (node / 32) name first end f in
+      body-is ∙ statements-upto text ws (written text ws (node / 32) name) at size (m .0 ∙ sym (k .at-is)) (omega (arith, m .1, k .at-is, k .size-is))
+
+  pub body-missing : Missing ≡ boundsOf (Look.bodyIn text ws (node / 32) name) → bodyIn text ws node ≡ upto (statementAt text ws 0) 0
+  unfolding statementsOf upto
+  body-missing f = body-is ∙ ap (statementsOf (libraryOf text ws)) (none-written text ws (node / 32) name f)

@@ -1,22 +1,24 @@
--- Vectors of modes as masks: what is stored of them, and that commuting is a test of masks (definition 5).
+-- Vectors of modes as masks: what is stored of them, and that commuting (definition 5) is a test of masks by Table 1.
 use Prim.Native.Nat.{ℕ, zero, suc, _+_, _-_, _*_, _^_, _≤_, _<_}
 use mathlib.Core.Path.{_≡_, refl, sym, ap, ap₂, _∙_}
-use mathlib.Core.Bool.{Bool, true, false, not, _&&_, _||_, Bool·not-not, true≢false}
-use mathlib.Core.List.{List, [], _∷_, map}
+use mathlib.Core.Bool.{Bool, true, false, not, _&&_, _||_, Bool·not-not}
+use mathlib.Core.List.{List, [], _∷_, _++_, map}
 use native.Mathlib.Omega.{arith}
-use lib.ListN.{length, getD}
-use lib.Bits.{bitAnd, bitOr, and-zero-r}
-use lib.Dec.{eqb, ltb}
-use borrow.Author.Tests.{eq-eqb, ne-eqb, eqb-true, eqb-false}
-use Rattle.model.specs.Base.{digit}
+use lib.ListN.{length, getD, replicate, length-append, length-map, length-replicate}
+use lib.Bits.{bitAnd, bitOr}
+use lib.Dec.{eqb}
+use borrow.Author.Tests.{ne-eqb}
+use Rattle.model.specs.Base.{every, digit}
 use Rattle.model.specs.Word.{Name}
-use Rattle.model.specs.Mode.{Mode, rank, depends, changes, compatible}
+use Rattle.model.specs.Mode.{Mode, Null, rank, depends, changes, compatible, clash}
 use Rattle.model.specs.Vector.{commute}
 use Rattle.model.specs.Image.{mask, onlyRead, readMask, writeMask}
-use Rattle.theory.specs.ModeLaws.{clash-is, changes-depends}
+use Rattle.theory.specs.ModeLaws.{rank-null, rank-read, rank-write, rank-lt, changes-depends, null-apart, apart-null}
 use Rattle.footprints.specs.declared.Vector.{Vector}
-use Rattle.footprints.specs.Masks.{and-cons, or-cons, mask-same, mask-or, mask-without}
+use Rattle.footprints.specs.Masks.{mask-not, mask-same, mask-none, mask-or, mask-without}
 use Rattle.footprints.specs.Says.{Says}
+use Rattle.vectors.specs.Lists.{at-place}
+use Rattle.vectors.specs.Ranks.{Square, goes, allApart, row-length, rankMask, together, ranks-apart}
 
 -- The masks of a vector of modes.
 pub record Masks (modes : List Mode) (v : Vector) : Type 0 where
@@ -60,78 +62,100 @@ stored-masks modes read write e k = record {
   written = k;
 }
 
+-- ---- the masks of the modes
+
+-- The fields in the mode of a rank: neither used nor written, used and not written, written. What is no rank has none.
+abbrev pub modeMask : Vector → ℕ → ℕ
+modeMask v zero = (2 ^ 32 - 1) - bitOr (v .uses) (v .writes)
+modeMask v (suc zero) = onlyReads v
+modeMask v (suc (suc zero)) = v .writes
+modeMask v (suc (suc (suc i))) = 0
+
+pub past-masks : (v : Vector) (i : ℕ) → 3 ≤ i → modeMask v i ≡ 0
+past-masks v zero h = absurd (omega arith)
+past-masks v (suc zero) h = absurd (omega arith)
+past-masks v (suc (suc zero)) h = absurd (omega arith)
+past-masks v (suc (suc (suc i))) h = refl
+
+-- Of 32 modes each is in the mask of its rank, and in no other.
+mode-mask : (modes : List Mode) (v : Vector) → length modes ≡ 32 → Masks modes v → (i : ℕ) → modeMask v i ≡ rankMask rank modes i
+unfolding rankMask
+mode-mask modes v h m zero =
+    let busy : List Bool = map (λ a. depends a || changes a) modes in
+    ap₂ (λ (u w : ℕ). (2 ^ 32 - 1) - bitOr u w) (m .used) (m .written)
+    ∙ ap (λ (n : ℕ). (2 ^ 32 - 1) - n) (mask-or depends changes modes)
+    ∙ mask-not 32 busy (length-map modes (λ a. depends a || changes a) ∙ h)
+    ∙ ap mask (sym (map-map not (λ a. depends a || changes a) modes))
+    ∙ sym (mask-same (λ a. eqb (rank a) 0) (λ a. not (depends a || changes a)) modes rank-null)
+mode-mask modes v h m (suc zero) = read-mask modes v (omega arith) m ∙ sym (mask-same (λ a. eqb (rank a) 1) onlyRead modes rank-read)
+mode-mask modes v h m (suc (suc zero)) = m .written ∙ sym (mask-same (λ a. eqb (rank a) 2) changes modes rank-write)
+mode-mask modes v h m (suc (suc (suc i))) =
+    sym (mask-same (λ a. eqb (rank a) (suc (suc (suc i)))) (λ a. false) modes (λ a. ne-eqb (rank a) (suc (suc (suc i))) (λ e. omega (arith, rank-lt a))) ∙ mask-none modes)
+
+-- ---- fields past the last one are Null
+
+abbrev padded : List Mode → List Mode
+padded modes = modes ++ replicate (32 - length modes) Null
+
+padded-length : (modes : List Mode) → length modes ≤ 32 → length (padded modes) ≡ 32
+padded-length modes h =
+    omega (arith, length-append modes (replicate (32 - length modes) Null), length-replicate {A = Mode} (32 - length modes) Null)
+
+padded-mask : (p : Mode → Bool) → p Null ≡ false → (modes : List Mode) (n : ℕ) → mask (map p (modes ++ replicate n Null)) ≡ mask (map p modes)
+unfolding mask
+padded-mask p e [] zero = refl
+padded-mask p e [] (suc n) = ap₂ (λ (m : ℕ) (b : Bool). m * 2 + digit b) (padded-mask p e [] n) e
+padded-mask p e (a ∷ modes) n = ap (λ (m : ℕ). m * 2 + digit (p a)) (padded-mask p e modes n)
+
+padded-masks : (modes : List Mode) (v : Vector) → Masks modes v → Masks (padded modes) v
+padded-masks modes v m = record {
+  used = m .used ∙ sym (padded-mask depends refl modes (32 - length modes));
+  written = m .written ∙ sym (padded-mask changes refl modes (32 - length modes));
+}
+
+null-left : (n : ℕ) (ws : List Mode) → commute (replicate n Null) ws ≡ true
+unfolding commute
+null-left zero ws = refl
+null-left (suc n) [] = refl
+null-left (suc n) (w ∷ ws) = ap₂ (λ (t u : Bool). not t && u) (null-apart w) (null-left n ws)
+
+null-right : (vs : List Mode) (n : ℕ) → commute vs (replicate n Null) ≡ true
+unfolding commute
+null-right [] n = refl
+null-right (v ∷ vs) zero = refl
+null-right (v ∷ vs) (suc n) = ap₂ (λ (t u : Bool). not t && u) (apart-null v) (null-right vs n)
+
+padded-commute : (vs ws : List Mode) (m n : ℕ) → commute (vs ++ replicate m Null) (ws ++ replicate n Null) ≡ commute vs ws
+unfolding commute
+padded-commute [] ws m n = null-left m (ws ++ replicate n Null)
+padded-commute (v ∷ vs) [] m n = null-right (v ∷ (vs ++ replicate m Null)) n
+padded-commute (v ∷ vs) (w ∷ ws) m n = ap (λ (t : Bool). not (clash v w) && t) (padded-commute vs ws m n)
+
 -- ---- commuting
 
--- No field that the one writes is used by the other.
+-- No pair of modes that the table forbids has a field in common.
 abbrev pub apart : Vector → Vector → Bool
-apart a b = eqb (bitOr (bitAnd (a .writes) (b .uses)) (bitAnd (a .uses) (b .writes))) 0
+apart a b = allApart compatible (modeMask a) (modeMask b)
 
--- Table 1 at two modes.
-pub table-is : (a b : Mode) → getD (getD compatible (rank a) []) (rank b) true ≡ not ((changes a && depends b) || (depends a && changes b))
-table-is a b = sym (Bool·not-not (getD (getD compatible (rank a) []) (rank b) true)) ∙ ap not (clash-is a b)
+-- Table 1 has a place for each pair of ranks. As the code reads it, by places that are there.
+table-square : Square compatible
+unfolding every
+table-square = refl
 
--- The same as the code holds it, row after row.
-abbrev pub table : List Bool
-table = true ∷ true ∷ true ∷ true ∷ true ∷ false ∷ true ∷ false ∷ false ∷ []
+pub table-at : (i j : ℕ) → i < length compatible → j < length compatible → getD (getD compatible i []) j false ≡ goes compatible i j
+table-at i j h k = at-place (getD compatible i []) j false true (omega (arith, row-length compatible table-square i h))
 
-pub table-at : (a b : ℕ) → a < 3 → b < 3 → getD table (a * 3 + b) false ≡ getD (getD compatible a []) b true
-table-at zero zero h k = refl
-table-at zero (suc zero) h k = refl
-table-at zero (suc (suc zero)) h k = refl
-table-at (suc zero) zero h k = refl
-table-at (suc zero) (suc zero) h k = refl
-table-at (suc zero) (suc (suc zero)) h k = refl
-table-at (suc (suc zero)) zero h k = refl
-table-at (suc (suc zero)) (suc zero) h k = refl
-table-at (suc (suc zero)) (suc (suc zero)) h k = refl
-table-at (suc (suc (suc a))) b h k = absurd (omega arith)
-table-at zero (suc (suc (suc b))) h k = absurd (omega arith)
-table-at (suc zero) (suc (suc (suc b))) h k = absurd (omega arith)
-table-at (suc (suc zero)) (suc (suc (suc b))) h k = absurd (omega arith)
+together-commute : (vs ws : List Mode) → together rank compatible vs ws ≡ commute vs ws
+unfolding together commute
+together-commute [] ws = refl
+together-commute (v ∷ vs) [] = refl
+together-commute (v ∷ vs) (w ∷ ws) = ap₂ _&&_ (sym (Bool·not-not (goes compatible (rank v) (rank w)))) (together-commute vs ws)
 
--- What is no rank goes with each.
-pub table-past : (a b : ℕ) → (ltb a 3 && ltb b 3) ≡ false → true ≡ getD (getD compatible a []) b true
-table-past zero zero e = absurd (true≢false e)
-table-past zero (suc zero) e = absurd (true≢false e)
-table-past zero (suc (suc zero)) e = absurd (true≢false e)
-table-past (suc zero) zero e = absurd (true≢false e)
-table-past (suc zero) (suc zero) e = absurd (true≢false e)
-table-past (suc zero) (suc (suc zero)) e = absurd (true≢false e)
-table-past (suc (suc zero)) zero e = absurd (true≢false e)
-table-past (suc (suc zero)) (suc zero) e = absurd (true≢false e)
-table-past (suc (suc zero)) (suc (suc zero)) e = absurd (true≢false e)
-table-past (suc (suc (suc a))) b e = refl
-table-past zero (suc (suc (suc b))) e = refl
-table-past (suc zero) (suc (suc (suc b))) e = refl
-table-past (suc (suc zero)) (suc (suc (suc b))) e = refl
-
-no-digit : (n : ℕ) (b : Bool) → eqb (n * 2 + digit b) 0 ≡ (not b && eqb n 0)
-no-digit n true = ne-eqb (n * 2 + 1) 0 (λ e. omega arith)
-no-digit n false = go (eqb n 0) refl
-  where
-    go : (t : Bool) → eqb n 0 ≡ t → eqb (n * 2 + 0) 0 ≡ eqb n 0
-    go true t = eq-eqb (n * 2 + 0) 0 (omega (arith, eqb-true n 0 t)) ∙ sym t
-    go false t = ne-eqb (n * 2 + 0) 0 (λ e. eqb-false n 0 t (omega arith)) ∙ sym t
-
--- The test of masks is the table's at each field.
-mask-test : (vs ws : List Mode)
-    → eqb (bitOr (bitAnd (mask (map changes vs)) (mask (map depends ws))) (bitAnd (mask (map depends vs)) (mask (map changes ws)))) 0 ≡ commute vs ws
-unfolding mask commute
-mask-test [] ws = refl
-mask-test (v ∷ vs) [] = ap₂ (λ (m n : ℕ). eqb (bitOr m n) 0) (and-zero-r (mask (map changes (v ∷ vs)))) (and-zero-r (mask (map depends (v ∷ vs))))
-mask-test (v ∷ vs) (w ∷ ws) =
-    let cv = mask (map changes vs) in
-    let dv = mask (map depends vs) in
-    let cw = mask (map changes ws) in
-    let dw = mask (map depends ws) in
-    let m = bitOr (bitAnd cv dw) (bitAnd dv cw) in
-    let t = (changes v && depends w) || (depends v && changes w) in
-    ap (λ (n : ℕ). eqb n 0)
-    (ap₂ bitOr (and-cons cv dw (changes v) (depends w)) (and-cons dv cw (depends v) (changes w))
-    ∙ or-cons (bitAnd cv dw) (bitAnd dv cw) (changes v && depends w) (depends v && changes w))
-    ∙ no-digit m t
-    ∙ ap₂ _&&_ (ap not (sym (clash-is v w))) (mask-test vs ws)
-
-pub apart-commute : (vs ws : List Mode) (a b : Vector) → Masks vs a → Masks ws b → apart a b ≡ commute vs ws
-apart-commute vs ws a b m n =
-    ap₂ (λ (x y : ℕ). eqb (bitOr x y) 0) (ap₂ bitAnd (m .written) (n .used)) (ap₂ bitAnd (m .used) (n .written)) ∙ mask-test vs ws
+pub apart-commute : (vs ws : List Mode) (a b : Vector) → length vs ≤ 32 → length ws ≤ 32 → Masks vs a → Masks ws b → apart a b ≡ commute vs ws
+apart-commute vs ws a b h k m n =
+    let e = mode-mask (padded vs) a (padded-length vs h) (padded-masks vs a m) in
+    let q = mode-mask (padded ws) b (padded-length ws k) (padded-masks ws b n) in
+    (λ t. allApart compatible (λ i. e i t) (λ j. q j t))
+    ∙ ranks-apart rank compatible table-square (padded vs) (padded ws)
+    ∙ together-commute (padded vs) (padded ws)
+    ∙ padded-commute vs ws (32 - length vs) (32 - length ws)

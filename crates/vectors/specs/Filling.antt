@@ -207,7 +207,7 @@ module _ (text ws : List ℕ) (c : ℕ) (known : c < classCount ws) where
   commuting-right ws₁ e two j h =
       ap (λ (n : ℕ). mask (upto (λ k. apart (stored ws₁ c j) (stored ws₁ c k)) n)) e
       ∙ ap mask (upto-same (λ k. commute (getD vs j []) (getD vs k [])) (λ k. apart (stored ws₁ c j) (stored ws₁ c k)) (memberCount ws c 1)
-      (λ k m. apart-commute (getD vs j []) (getD vs k []) (stored ws₁ c j) (stored ws₁ c k) (masks j h) (masks k m)))
+      (λ k m. apart-commute (getD vs j []) (getD vs k []) (stored ws₁ c j) (stored ws₁ c k) (vector-length text ws c j known h) (vector-length text ws c k known m) (masks j h) (masks k m)))
       ∙ ap (λ (n : ℕ). mask (upto (λ k. commute (getD vs j []) (getD vs k [])) n)) (sym vector-count)
       ∙ sym (ap mask (ap (map (commute (getD vs j []))) (listed [] vs)
       ∙ map-upto (commute (getD vs j [])) (λ k. getD vs k []) (length vs)))

@@ -4,6 +4,7 @@ pub mod Bodies
 pub mod Marks
 pub mod Meeting
 pub mod Joining
+pub mod Ranks
 pub mod Commuting
 pub mod Closure
 pub mod Filled

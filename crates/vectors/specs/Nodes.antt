@@ -3,21 +3,21 @@
 use Prim.Native.Nat.{ℕ, _+_, _*_, _/_, _%_, _≤_, _<_}
 use mathlib.Core.Path.{_≡_, refl, sym, ap, ap₂, subst, _∙_}
 use mathlib.Core.Bool.{Bool, true, false, cond}
-use mathlib.Core.List.{List, [], map, List·Memᴰ, List·Memᴰ·head, List·Memᴰ·not-nil, List·Memᴰ·eq-of-singleton}
+use mathlib.Core.List.{List, [], List·Memᴰ, List·Memᴰ·head, List·Memᴰ·not-nil, List·Memᴰ·eq-of-singleton}
 use native.Mathlib.Omega.{arith}
-use lib.ListN.{length, getD, length-map, List·getD-eq-default}
+use lib.ListN.{length, getD}
 use Rattle.model.specs.Base.{upto}
 use Rattle.model.specs.Word.{Name}
 use Rattle.model.specs.Form.{Action, assign, send, sendPrefixed, reply, Statement}
-use Rattle.model.specs.Library.{Library, Member, noMember, classAt, memberPlace, member, among, byFirstParent}
+use Rattle.model.specs.Library.{Library, Member, noMember, classAt, memberPlace, among, byFirstParent}
 use Rattle.model.specs.Graph.{Node, callee, calls, successors, Star, here, further, Reached}
 use Rattle.theory.specs.ListLaws.{map-at, flatMap-in, in-flatMap}
-use Rattle.theory.specs.Lookup.{place-known, place-unknown, name-at}
+use Rattle.theory.specs.Lookup.{place-known, name-at}
 use Rattle.theory.specs.Lawful.{byFirstParent-lawful}
 use Rattle.theory.specs.VectorLaws.{bodyAt}
 use Rattle.words.specs.View.{classWord, classCount, memberAt, libraryOf, nameOf}
 use Rattle.words.specs.Upto.{length-upto, getD-upto}
-use Rattle.words.specs.Look.{shownCount, class-count, shown-members}
+use Rattle.words.specs.Look.{shownCount, shown-members}
 use Rattle.footprints.specs.Fields.{shown-le, shown-class}
 use Rattle.footprints.specs.Calls.{numberOf, numberIn}
 
@@ -100,14 +100,6 @@ module _ (text ws : List ℕ) (c : ℕ) (n : Name) where
     within : memberPlace methods n < length methods
     within = omega (arith, k .place, k .below)
 
-    pub member-known : member methods n ≡ memberAt text ws c 1 (x % 32)
-    unfolding member
-    member-known = at-place
-
-    pub origin-known : byFirstParent library c n ≡ classWord ws c (8 + (1 * 64 + x % 32)) / 1048576
-    unfolding byFirstParent memberAt
-    origin-known = map-at (λ (m : Member). m .origin) methods (memberPlace methods n) noMember (length (library .classes)) within ∙ ap (λ (m : Member). m .origin) at-place
-
     pub node-known : nodeAt text ws x ≡ record { class = c; method = n }
     unfolding nodeAt memberAt
     node-known =
@@ -118,17 +110,6 @@ module _ (text ws : List ℕ) (c : ℕ) (n : Name) where
         ∙ sym (map-at (λ (m : Member). m .name) methods (memberPlace methods n) noMember [] within)
         ∙ name-at methods n within in
         λ i. record { class = d i; method = name i }
-
-  module _ (t : among methods n ≡ false) where
-    pub member-unknown : member methods n ≡ noMember
-    unfolding member
-    member-unknown = List·getD-eq-default methods noMember (omega (arith, place-unknown methods n t))
-
-    pub origin-unknown : byFirstParent library c n ≡ classCount ws
-    unfolding byFirstParent
-    origin-unknown =
-        List·getD-eq-default (map (λ (m : Member). m .origin) methods) (length (library .classes)) (omega (arith, place-unknown methods n t, length-map methods (λ (m : Member). m .origin)))
-        ∙ class-count text ws
 
 -- ---- which number calls which
 

@@ -1,53 +1,19 @@
 // The bodies of methods as the tables hold them: where a body's statements stand, and what they do together.
 use footprints::Vector;
-ghost use Prim.Native.Nat.{_+_, _-_, min};
+ghost use Prim.Native.Nat.{_+_, _-_};
 ghost use mathlib.Core.Path.{_≡_};
 ghost use Rattle.model.specs.Base.{upto};
-ghost use Rattle.model.specs.Library.{classAt, member, byFirstParent};
 ghost use Rattle.model.specs.Vector.{inBody};
-ghost use Rattle.words.specs.View.{partOf, statementWord, libraryOf};
+ghost use Rattle.words.specs.View.{partOf, statementWord};
 ghost use Rattle.footprints.specs.Fields.{fieldsIn};
 ghost use Rattle.footprints.specs.Says.{Says};
-ghost use Rattle.vectors.specs.Bodies.{statementAt, BodyWord};
+ghost use Rattle.vectors.specs.Bodies.{statementAt, Cut};
 ghost use Rattle.vectors.specs.Nodes.{bodyIn};
-
-const NONE: u32 = 512;
 
 // A run of the text's statements.
 pub struct Body {
     pub first: u32,
     pub size: u32,
-}
-
-// The class whose writing of the method a class has; the number of classes where it has no such method.
-fn origin_of(text: &[u8], tables: &[u32], class: u32, name: &[u8]) -> u32
-    ensures { λ r. ⌜ r ≡ byFirstParent (libraryOf (now (text .entry)) (now (tables .entry))) class (now (name .entry)) ⌝ }
-{
-    let number = footprints::method_number(text, tables, class, name);
-    if number < NONE {
-        words::member_word(tables, class, 1, number % 32) / 1048576
-    } else {
-        words::class_count(tables)
-    }
-}
-
-// The body's word of a method in a class; an empty body's where the class has no such method.
-fn body_word(text: &[u8], tables: &[u32], class: u32, name: &[u8]) -> u32
-    ensures { λ r. ⌜ BodyWord (member (classAt (libraryOf (now (text .entry)) (now (tables .entry))) class .methods) (now (name .entry))) r ⌝ }
-{
-    let number = footprints::method_number(text, tables, class, name);
-    if number < NONE {
-        words::body_word(tables, class, 1, number % 32)
-    } else {
-        0
-    }
-}
-
-// The lower of two numbers.
-fn least(a: u32, b: u32) -> u32
-    ensures { λ r. ⌜ r ≡ min a b ⌝ }
-{
-    if a <= b { a } else { b }
 }
 
 // How many there are from the first on.
@@ -57,19 +23,27 @@ fn left_of(all: u32, first: u32) -> u32
     if first <= all { all - first } else { 0 }
 }
 
+// The statements from one up to another, cut at the text's last statement.
+fn run_of(tables: &[u32], first: u32, end: u32) -> Body
+    ensures { λ r. ⌜ Cut (now (tables .entry)) first end (r .first) (r .size) ⌝ }
+{
+    let left = left_of(words::statement_count(tables), first);
+    Body {
+        first,
+        size: words::least(left_of(end, first), left),
+    }
+}
+
 // The body that the method with a number runs, cut at the text's last statement.
 pub fn body_of(text: &[u8], tables: &[u32], node: u32) -> Body
     ensures { λ r. ⌜ bodyIn (now (text .entry)) (now (tables .entry)) node ≡ upto (statementAt (now (text .entry)) (now (tables .entry)) (r .first)) (r .size) ⌝ }
 {
     let class = node / 32;
     let name = words::name_of(text, words::member_word(tables, class, 1, node % 32));
-    let origin = origin_of(text, tables, class, name);
-    let word = body_word(text, tables, origin, name);
-    let first = word / 64;
-    let left = left_of(words::statement_count(tables), first);
-    Body {
-        first: first,
-        size: least(word % 64, left),
+    let found = words::body::body_in(text, tables, class, name);
+    match found {
+        words::body::Body::Found(first, end) => run_of(tables, first, end),
+        words::body::Body::Missing => Body { first: 0, size: 0 },
     }
 }
 

@@ -4,42 +4,26 @@ use super::closure::vector_of;
 use footprints::Vector;
 ghost use Prim.Native.Nat.{_+_, _*_, _<_};
 ghost use mathlib.Core.Path.{_≡_};
-ghost use mathlib.Core.Bool.{true};
-ghost use mathlib.Core.List.{[]};
-ghost use lib.ListN.{getD};
+ghost use lib.ListN.{length};
 ghost use Rattle.model.specs.Mode.{compatible};
 ghost use Rattle.words.specs.View.{memberCount};
-ghost use Rattle.vectors.specs.Commuting.{apart, onlyReads};
+ghost use Rattle.vectors.specs.Ranks.{pairApart, rowApart};
+ghost use Rattle.vectors.specs.Commuting.{modeMask, apart};
 ghost use Rattle.vectors.specs.Filled.{Filled};
 ghost use Rattle.vectors.specs.Filling.{withVector, stored, commutingMask, TwoTo, CommutingTo, ClassFilled};
 
-// Table 1 of the paper: which modes of a field go together, Null, Read and Write in this order.
-const COMPATIBLE: [bool; 9] = [true, true, true, true, true, false, true, false, false];
+// Table 1 of the paper: which modes of a field go together, by rank: Null, Read, Write.
+const COMPATIBLE: [[bool; 3]; 3] = [
+    [true, true, true],
+    [true, true, false],
+    [true, false, false],
+];
 
 const READ: u32 = 136;
 
 const WRITE: u32 = 168;
 
 const COMMUTING: u32 = 200;
-
-// Modes of these ranks go together; what is no rank goes with each.
-pub fn compatible(a: u32, b: u32) -> bool
-    ensures { λ r. ⌜ r ≡ getD (getD compatible a []) b true ⌝ }
-{
-    if (a < 3) & (b < 3) {
-        let place = (a * 3 + b) as usize;
-        COMPATIBLE[place]
-    } else {
-        true
-    }
-}
-
-// No field that the one writes is used by the other: the table's test at all fields at once.
-fn commuting(a: Vector, b: Vector) -> bool
-    ensures { λ r. ⌜ r ≡ apart a b ⌝ }
-{
-    (a.writes & b.uses) | (a.uses & b.writes) == 0
-}
 
 // Where a mask of a method stands.
 fn mask_place(class: u32, row: u32, method: u32) -> usize
@@ -48,19 +32,69 @@ fn mask_place(class: u32, row: u32, method: u32) -> usize
     8 + (class as usize * 232 + (row as usize + method as usize))
 }
 
-// The fields that are only read: a written field's bit is 0.
-fn read_mask(vector: Vector) -> u32
-    ensures { λ r. ⌜ r ≡ onlyReads vector ⌝ }
+// The fields in the mode of a rank: neither used nor written, used and not written, written. What is no rank has none.
+fn mode_mask(vector: Vector, rank: usize) -> u32
+    ensures { λ r. ⌜ r ≡ modeMask vector rank ⌝ }
 {
-    vector.uses & !vector.writes
+    let uses = vector.uses;
+    let writes = vector.writes;
+    match rank {
+        0 => !(uses | writes),
+        1 => uses & !writes,
+        2 => writes,
+        _ => 0,
+    }
 }
 
-// The two masks of a vector stored.
+// The modes of these ranks go together, or no field is in the one for the first method and in the other for the second.
+fn pair_apart(a: Vector, b: Vector, i: usize, j: usize) -> bool
+    requires { ⌜ (i < length compatible) × (j < length compatible) ⌝ }
+    ensures { λ r. ⌜ r ≡ pairApart compatible (modeMask a) (modeMask b) i j ⌝ }
+{
+    if COMPATIBLE[i][j] {
+        true
+    } else {
+        mode_mask(a, i) & mode_mask(b, j) == 0
+    }
+}
+
+// The same for each mode of the second method.
+fn row_apart(a: Vector, b: Vector, i: usize) -> bool
+    requires { ⌜ i < length compatible ⌝ }
+    ensures { λ r. ⌜ r ≡ rowApart compatible (modeMask a) (modeMask b) i ⌝ }
+{
+    let mut j = 0;
+    while j < COMPATIBLE.len() {
+        if !pair_apart(a, b, i, j) {
+            return false;
+        }
+        j += 1;
+    }
+    true
+}
+
+// The two methods commute: no pair of modes that the table forbids meets at a field.
+fn commuting(a: Vector, b: Vector) -> bool
+    ensures { λ r. ⌜ r ≡ apart a b ⌝ }
+{
+    let mut i = 0;
+    while i < COMPATIBLE.len() {
+        if !row_apart(a, b, i) {
+            return false;
+        }
+        i += 1;
+    }
+    true
+}
+
+// Stores the masks of Read and Write of a vector.
 fn put_vector(tables: &mut [u32], class: u32, method: u32, vector: Vector)
     ensures { λ r. ⌜ now (tables .exit) ≡ withVector (now (tables .entry)) class method vector ⌝ }
 {
-    words::put(tables, mask_place(class, READ, method), read_mask(vector));
-    words::put(tables, mask_place(class, WRITE, method), vector.writes);
+    let read = mode_mask(vector, 1);
+    let write = mode_mask(vector, 2);
+    words::put(tables, mask_place(class, READ, method), read);
+    words::put(tables, mask_place(class, WRITE, method), write);
 }
 
 // The vector that is stored of a method.

@@ -6,3 +6,4 @@ pub mod Rows
 pub mod Frames
 pub mod Bits
 pub mod Look
+pub mod Bodies

@@ -9,17 +9,18 @@
 -- 8,072 words in all. A name's word is origin * 1048576 + place * 32 + length; a body's word first * 64 + count; a part's
 -- word place * 65536 + length.
 use Prim.Native.Nat.{ℕ, _+_, _*_, _/_, _%_, _^_, min}
-use mathlib.Core.Bool.{Bool}
-use mathlib.Core.Option.{Option, none, some}
-use mathlib.Core.List.{List, [], _∷_, map}
-use lib.ListN.{length, getD, take, drop}
+use mathlib.Core.Bool.{Bool, cond}
+use mathlib.Core.Option.{none}
+use mathlib.Core.List.{List, map}
+use lib.ListN.{getD, take, drop}
 use lib.Dec.{eqb}
 use Rattle.model.specs.Base.{upto}
 use Rattle.model.specs.Text.{words}
-use Rattle.model.specs.Word.{Name, decimal}
+use Rattle.model.specs.Word.{Name, isNumber, decimal}
 use Rattle.model.specs.Expression.{number}
 use Rattle.model.specs.Form.{Statement, Form, classLine, fieldLine, methodLine, statementLine, endLine, objectLine, malformed, formOf, reply}
 use Rattle.model.specs.Library.{Member, Class, Placed, Object, Library}
+use Rattle.lex.specs.Piece.{wordsAfter}
 
 -- ---- parts of the text
 
@@ -41,10 +42,14 @@ statementIn endLine = record { guard = none; action = reply (number 0) }
 statementIn (objectLine n c vs) = record { guard = none; action = reply (number 0) }
 statementIn malformed = record { guard = none; action = reply (number 0) }
 
+-- The number that a word says; 0 where it says none.
+unfoldable pub valueOf : List ℕ → ℕ
+unfolding isNumber decimal
+valueOf w = let n = decimal 0 w in cond (isNumber w) n 0
+
 -- The numbers behind the space at the front; none at the end.
 abbrev pub numbersIn : List ℕ → List ℕ
-numbersIn [] = []
-numbersIn (b ∷ s) = map (decimal 0) (words s)
+numbersIn s = map valueOf (wordsAfter s)
 
 -- ---- the tables
 
@@ -105,7 +110,7 @@ placedOf text ws s =
     record { statement = statementIn (formOf (words (partOf text w))); at = w / 65536; size = w % 65536 }
 
 unfoldable pub objectOf : List ℕ → List ℕ → ℕ → Object
-unfolding objectWord nameOf partOf decimal
+unfolding objectWord nameOf partOf valueOf
 objectOf text ws o =
     record { name = nameOf text (objectWord ws o 0); class = objectWord ws o 1; values = numbersIn (partOf text (objectWord ws o 3)) }
 

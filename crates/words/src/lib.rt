@@ -1,10 +1,12 @@
 // Tables of u32 words that the caller lends, and the look-ups in them: the layout is in specs/View.antt.
+pub mod body;
+
 ghost use Prim.Native.Nat.{_+_, _*_, _<_, min};
 ghost use mathlib.Core.Path.{_≡_};
 ghost use lib.ListN.{getD, set, take, drop};
 ghost use Rattle.model.specs.Base.{same, firstAt};
 ghost use Rattle.model.specs.Library.{memberPlace, classNumber, isClass};
-ghost use Rattle.words.specs.View.{nameOf, partOf, classWord, objectWord, classCount, statementCount, objectCount, memberCount, membersOf, libraryOf};
+ghost use Rattle.words.specs.View.{nameOf, partOf, classWord, objectWord, classCount, statementCount, objectCount, memberCount, membersOf, bit, libraryOf};
 ghost use Rattle.words.specs.Names.{nameWord, partWord};
 ghost use Rattle.words.specs.Rows.{withMember, withCount};
 ghost use Rattle.words.specs.Look.{shownCount, firstNamed};
@@ -56,7 +58,7 @@ pub fn put_object_word(tables: &mut [u32], object: u32, place: u32, value: u32)
 }
 
 // A part of the text; what lies past the end is left out.
-fn part(text: &[u8], at: usize, size: usize) -> &[u8]
+pub fn part(text: &[u8], at: usize, size: usize) -> &[u8]
     ensures { λ r. ⌜ now r ≡ take size (drop at (now (text .entry))) ⌝ }
 {
     if text.len() <= at {
@@ -104,10 +106,22 @@ pub fn part_word(place: usize, size: usize) -> u32
     (place % 65536) as u32 * 65536 + (size % 65536) as u32
 }
 
-fn least(a: u32, b: u32) -> u32
+// The lower of two numbers.
+pub fn least(a: u32, b: u32) -> u32
     ensures { λ r. ⌜ r ≡ min a b ⌝ }
 {
     if a <= b { a } else { b }
+}
+
+// The mask has the bit; no mask has one past its 32.
+pub fn has_bit(mask: u32, place: u32) -> bool
+    ensures { λ r. ⌜ r ≡ bit mask place ⌝ }
+{
+    if place < 32 {
+        (mask >> place) % 2 == 1
+    } else {
+        false
+    }
 }
 
 // How many classes the tables hold.

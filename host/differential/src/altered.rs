@@ -7,7 +7,9 @@ use crate::machine::Counts;
 use reference::machine::{Answer, Call};
 use wrapper::machine::{lent, STATE_WORDS};
 
-/// Where the slots' rows begin, and how long each is (docs/STATE.md).
+/// Where the objects' and the statements' words begin, where the slots' rows begin, and how long each is (docs/STATE.md).
+pub const OBJECTS: usize = 3_720;
+pub const STATEMENTS: usize = 3_976;
 pub const ROWS: usize = 8_072;
 pub const ROW: usize = 2_264;
 
@@ -94,6 +96,7 @@ impl Memory {
         let (state, values) = (self.state.contents(), self.values.contents());
         if let Answer::Held(by) = answer {
             assert!(by < 8 && by as usize != slot, "{call:?} is held by slot {by}");
+            assert!(state[ROWS + by as usize * ROW] != 0, "{call:?} is held by slot {by}, which is closed");
         }
         if matches!(answer, Answer::Refused(_) | Answer::Held(_)) {
             assert!(state == self.state_before && values == self.values_before, "{call:?} answered {answer:?} and altered something");

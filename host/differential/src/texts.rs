@@ -4,7 +4,7 @@ use crate::guard::Guarded;
 use generate::Random;
 use reference::text::{Library, Placed};
 use wrapper::machine::{lent, NotStarted, STATE_WORDS};
-use wrapper::{Fault, NotCompiled, NotFound, NotWritten};
+use wrapper::{Fault, NotCompiled, NotFound, NotPrinted, NotWritten};
 
 /// What the second implementation says of a text.
 struct Expected {
@@ -58,12 +58,15 @@ fn tables(text: &[u8], expected: &Expected, random: &mut Random) {
     for size in sizes(random, expected.tables.len()) {
         let before = rubbish(random, size);
         let mut out = Guarded::new(&before, 0xa5);
-        let length = wrapper::print_tables(text, out.lent());
+        let answer = wrapper::print_tables(text, out.lent());
+        let length = expected.tables.len();
         let mut after = before.clone();
-        let room = size.min(expected.tables.len());
-        after[..room].copy_from_slice(&expected.tables[..room]);
-        assert_eq!(length, expected.tables.len(), "what is printed into {size} bytes");
-        assert!(out.contents() == after, "the lines printed into {size} bytes");
+        if length <= size {
+            after[..length].copy_from_slice(&expected.tables);
+        }
+        let right = if length <= size { Ok(length) } else { Err(NotPrinted) };
+        assert_eq!(answer, right, "what is printed into {size} bytes");
+        assert!(out.contents() == after, "the buffer of {size} bytes after printing");
     }
 }
 
@@ -77,7 +80,7 @@ fn statement(text: &[u8], statements: &Result<Vec<&Placed>, Fault>, count: u32) 
     assert_eq!(wrapper::statement_fault(text, count), placed.map(|_| ()), "the number of statement {count}");
     match placed {
         Ok((at, size)) => assert_eq!((part.as_ptr() as usize - text.as_ptr() as usize, part.len()), (at, size), "statement {count}"),
-        Err(_) => assert!(part.is_empty(), "statement {count} is refused and handed back"),
+        Err(_) => assert_eq!((part.as_ptr(), part.len()), (text.as_ptr(), 0), "statement {count} is refused and handed back"),
     }
 }
 

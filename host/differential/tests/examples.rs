@@ -40,8 +40,49 @@ fn text_of_32768_bytes() {
 
 #[test]
 fn form_before_names() {
-    let text = "class a : nobody\nfield x\nmethod m\nreply x\nend\nmethod n\nreply 1\nend\nmethod\n";
+    let text = "class a\nclass b : nobody\nfield x\nmethod m\nreply x\nend\nmethod n\nend\nmethod\n";
     verdict(text.as_bytes(), (12, 9));
+}
+
+/// Lines in no form or place, and each of 13 to 16.
+#[test]
+fn forms_and_names() {
+    let body = |line: &str| format!("class a\nfield x\nmethod m\n{line}\nend\n");
+    for (line, right) in [
+        ("class level", (12, 1)),
+        ("class  a", (12, 1)),
+        ("class a :", (12, 1)),
+        ("class a : b b", (13, 1)),
+        ("class a : a", (14, 1)),
+        ("object o a", (14, 1)),
+        ("class a\nclass a", (13, 2)),
+        ("class a\nfield x\nclass b : a\nfield x", (13, 4)),
+        ("class a\nfield x\nclass b\nfield x\nclass c : a b", (15, 5)),
+        ("class r\nfield x\nclass a : r\nclass b : r\nclass c : a b", (0, 0)),
+        ("class b\nmethod m\nend\nclass a\nmethod m\nsend b.m to self 0\nend", (16, 6)),
+        ("class a\nmethod m\nreply 1", (12, 4)),
+        ("class a\nmethod m\nfield x\nend", (12, 3)),
+        ("class a\nmethod m\nend\nfield x", (12, 4)),
+    ] {
+        verdict(format!("{line}\n").as_bytes(), right);
+    }
+    for (line, right) in [
+        ("add x 1", (12, 4)),
+        ("when x when x reply 1", (12, 4)),
+        ("when x", (12, 4)),
+        ("reply 4294967295", (0, 0)),
+        ("reply 4294967296", (12, 4)),
+        ("reply 01", (12, 4)),
+        ("send a.b.c to self 0", (12, 4)),
+        ("send n to self 0", (14, 4)),
+        ("when y reply 1", (14, 4)),
+        ("send a.m to self 0", (16, 4)),
+        ("send a.n to self 0", (14, 4)),
+    ] {
+        verdict(body(line).as_bytes(), right);
+    }
+    verdict(b"\n", (12, 1));
+    verdict(b"class a", (12, 1));
 }
 
 /// The text of "What `tables` prints": what is printed, and the image's pairs.
@@ -50,7 +91,7 @@ fn sample() {
     let text = include_bytes!("../../../samples/lanes.txt");
     let right = "run shot WN ny\nrun plot NR yy\nlane shot WNW nyn\nlane plot NRN yyy\nlane tune NNW nyn\n";
     let mut out = [0; 200];
-    let size = wrapper::print_tables(text, &mut out);
+    let size = wrapper::print_tables(text, &mut out).unwrap();
     assert_eq!(&out[..size], right.as_bytes());
     assert_eq!(reference::image::tables(text), right);
     let mut image = [0; 200];

@@ -67,8 +67,10 @@ int main(void) {
     printf("starting_values %u %zu: %u %u\n", number, detail, values[0], values[1]);
     number = cishmolaq_starting_values(TEXT(good), values, 1, &detail);
     printf("starting_values %u %zu\n", number, detail);
-    size_t length = cishmolaq_print_tables(TEXT(good), lines, sizeof lines);
-    printf("tables %zu\n%.*s", length, (int)length, (const char *)lines);
+    number = cishmolaq_print_tables(TEXT(good), lines, sizeof lines, &detail);
+    printf("tables %u %zu\n%.*s", number, detail, (int)detail, (const char *)lines);
+    number = cishmolaq_print_tables(TEXT(bad), lines, 12, &detail);
+    printf("tables %u %zu\n", number, detail);
     machine();
     return 0;
 }

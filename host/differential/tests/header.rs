@@ -13,9 +13,10 @@ statement 88 14 reply clusters
 statement_fault 23 0
 starting_values 0 0: 7 0
 starting_values 22 0
-tables 30
+tables 0 30
 run shot WN ny
 run plot NR yy
+tables 21 0
 start 22 0
 start 0 0
 begin 0 0
@@ -57,7 +58,7 @@ fn in_96_kib_of_stack() {
         let work = || {
             assert!(wrapper::check(&text).is_ok() && wrapper::compile(&text, &mut image).is_ok());
             assert!(wrapper::statement_fault(&text, 0).is_ok() && !wrapper::statement(&text, 0).is_empty());
-            assert!(wrapper::print_tables(&text, &mut lines) > 0 && wrapper::starting_values(&text, &mut values).is_ok());
+            assert!(wrapper::print_tables(&text, &mut lines).is_ok() && wrapper::starting_values(&text, &mut values).is_ok());
             let mut machine = Machine::start(&text, &mut values).unwrap();
             machine.begin(0).unwrap();
             machine.send(0, Target::Domain(0), 0, 1).unwrap();

@@ -14,7 +14,7 @@ fn vectors() {
         for (name, tables) in [(format!("{n}.txt"), format!("{n}.tables")), (format!("{n}.bad"), format!("{n}.bad.tables"))] {
             let text = vector(&name);
             let mut out = vec![0; wrapper::LONGEST_TABLES];
-            let size = wrapper::print_tables(&text, &mut out);
+            let size = wrapper::print_tables(&text, &mut out).unwrap();
             assert_eq!(out[..size], vector(&tables), "tables of {name}");
             compare_named(&name, &text, &mut random);
         }

@@ -20,7 +20,9 @@ mod entries {
         pub fn cishmolaq_starting_values(
             text: *const u8, text_length: usize, values: *mut u32, value_count: usize, line: *mut usize,
         ) -> u32;
-        pub fn cishmolaq_print_tables(text: *const u8, text_length: usize, out: *mut u8, out_length: usize) -> usize;
+        pub fn cishmolaq_print_tables(
+            text: *const u8, text_length: usize, out: *mut u8, out_length: usize, detail: *mut usize,
+        ) -> u32;
         pub fn cishmolaq_start(
             text: *const u8, text_length: usize, values: *const u32, value_count: usize, state: *mut u32,
             state_words: usize, line: *mut usize,
@@ -62,6 +64,10 @@ pub enum NotCompiled {
     /// 21: the buffer is shorter than the image.
     ShortBuffer,
 }
+
+/// 21: the buffer is shorter than what is printed.
+#[derive(Clone, Copy, Debug, PartialEq, Eq)]
+pub struct NotPrinted;
 
 /// Why a statement was not found.
 #[derive(Clone, Copy, Debug, PartialEq, Eq)]
@@ -133,7 +139,12 @@ pub fn starting_values(text: &[u8], values: &mut [u32]) -> Result<(), NotWritten
     }
 }
 
-/// Writes what `tables` prints for a text as far as there is room, and answers the length of what is printed.
-pub fn print_tables(text: &[u8], out: &mut [u8]) -> usize {
-    unsafe { entries::cishmolaq_print_tables(text.as_ptr(), text.len(), out.as_mut_ptr(), out.len()) }
+/// Writes what `tables` prints for a text, and answers its length.
+pub fn print_tables(text: &[u8], out: &mut [u8]) -> Result<usize, NotPrinted> {
+    let mut detail = usize::MAX;
+    match unsafe { entries::cishmolaq_print_tables(text.as_ptr(), text.len(), out.as_mut_ptr(), out.len(), &mut detail) } {
+        0 => Ok(detail),
+        21 if detail == 0 => Err(NotPrinted),
+        number => panic!("number {number} with {detail} is not in the header"),
+    }
 }

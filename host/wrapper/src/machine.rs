@@ -70,7 +70,7 @@ pub mod lent {
         Done,
         Going,
         Answer(u32),
-        /// 21, 22, 24, or 31 to 36.
+        /// 21, 24, or 31 to 36.
         Refused(u32),
         /// 40.
         Held(u32),
@@ -110,7 +110,7 @@ pub mod lent {
         let number = unsafe {
             entries::cishmolaq_begin(text.0, text.1, state.as_mut_ptr(), state.len(), values.0, values.1, slot, &mut detail)
         };
-        outcome(number, detail, &[0, 21, 22, 24, 31, 33])
+        outcome(number, detail, &[0, 21, 24, 31, 33])
     }
 
     pub fn send(text: &[u8], state: &mut [u32], values: &[u32], slot: u32, target: Target, method: u32, argument: u32) -> Outcome {
@@ -130,7 +130,7 @@ pub mod lent {
             let (state, words) = (state.as_mut_ptr(), state.len());
             entries::cishmolaq_send(text.0, text.1, state, words, values.0, values.1, slot, kind, named, method, argument, &mut detail)
         };
-        outcome(number, detail, &[0, 21, 22, 24, 31, 32, 34, 36, 40])
+        outcome(number, detail, &[0, 21, 24, 31, 32, 34, 36, 40])
     }
 
     pub fn step(text: &[u8], state: &mut [u32], values: &mut [u32], slot: u32) -> Outcome {
@@ -138,7 +138,7 @@ pub mod lent {
         let number = unsafe {
             entries::cishmolaq_step(text.0, text.1, state.as_mut_ptr(), state.len(), values.0, values.1, slot, &mut detail)
         };
-        outcome(number, detail, &[1, 2, 21, 22, 24, 31, 32, 35, 41])
+        outcome(number, detail, &[1, 2, 21, 24, 31, 32, 35, 41])
     }
 
     pub fn commit(text: &[u8], state: &mut [u32], values: &[u32], slot: u32) -> Outcome {
@@ -146,7 +146,7 @@ pub mod lent {
         let number = unsafe {
             entries::cishmolaq_commit(text.0, text.1, state.as_mut_ptr(), state.len(), values.0, values.1, slot, &mut detail)
         };
-        outcome(number, detail, &[0, 21, 22, 24, 31, 32, 34])
+        outcome(number, detail, &[0, 21, 24, 31, 32, 34])
     }
 
     pub fn abort(text: &[u8], state: &mut [u32], values: &mut [u32], slot: u32) -> Outcome {
@@ -154,7 +154,7 @@ pub mod lent {
         let number = unsafe {
             entries::cishmolaq_abort(text.0, text.1, state.as_mut_ptr(), state.len(), values.0, values.1, slot, &mut detail)
         };
-        outcome(number, detail, &[0, 21, 22, 24, 31, 32])
+        outcome(number, detail, &[0, 21, 24, 31, 32])
     }
 }
 

@@ -1,5 +1,5 @@
 -- The answer is the entry's, told as a number and a detail.
-use Rattle.abi.specs.Laws.{tells-as}
+use Rattle.abi.specs.Laws.{writes-as}
 use borrow.Author.Needs.{needs}
 use Rattle.abi.proofs.cishmolaq_compile.Statement.{statement}
 use Rattle.abi.proofs.cishmolaq_compile.Tie as tie
@@ -16,7 +16,7 @@ same-length c = search needs
 returns : tie.Need-returns
 returns c =
     let compiled = c .before .before .before .before .compile .ensures in
-    (tells-as (c .tell .ensures) (compiled .says), compiled .bytes)
+    writes-as (c .tell .ensures) (compiled .says) (compiled .bytes) (compiled .kept)
 
 pub cishmolaq-compile-spec : {M : Type 1} → statement M
 cishmolaq-compile-spec = tie.close (tie.spec compile-requires tell-requires same-length returns)

@@ -1,5 +1,5 @@
 -- The answer is the entry's, told as a number and a detail.
-use Rattle.abi.specs.Laws.{tells-as}
+use Rattle.abi.specs.Laws.{writes-as}
 use borrow.Author.Needs.{needs}
 use Rattle.abi.proofs.cishmolaq_starting_values.Statement.{statement}
 use Rattle.abi.proofs.cishmolaq_starting_values.Tie as tie
@@ -16,7 +16,7 @@ same-length c = search needs
 returns : tie.Need-returns
 returns c =
     let started = c .before .before .before .before .starting-values .ensures in
-    (tells-as (c .tell .ensures) (started .says), started .values)
+    writes-as (c .tell .ensures) (started .says) (started .values) (started .kept)
 
 pub cishmolaq-starting-values-spec : {M : Type 1} → statement M
 cishmolaq-starting-values-spec =

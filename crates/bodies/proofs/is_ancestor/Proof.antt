@@ -1,5 +1,6 @@
 -- `is_ancestor` meets its contract: the bit stands in the last class's word, and where there is no class there is none.
 use borrow.Author.Needs.{needs}
+use mathlib.Core.Path.{_∙_}
 use native.Mathlib.Omega.{arith}
 use Rattle.bodies.specs.Held.{ancestor, no-ancestor}
 use Rattle.bodies.proofs.is_ancestor.Statement.{statement}
@@ -7,10 +8,11 @@ use Rattle.bodies.proofs.is_ancestor.Tie as tie
 
 returns : tie.Need-returns
 returns c =
-    let t = c .before in
+    let w = c .before in
+    let t = w .before in
     let k = t .before .before .last-class in
     let a = t .before .before .before .before .args in
-    λ text. ancestor text (a .tables .now) (k .result) (k .ensures) (a .class) (omega (arith, t .if1 .taken, t .before .class-count .ensures)) (c .class-word .ensures)
+    λ text. c .has-bit .ensures ∙ ancestor text (a .tables .now) (k .result) (k .ensures) (a .class) (omega (arith, t .if1 .taken, t .before .class-count .ensures)) (w .class-word .ensures)
 
 returns-2 : tie.Need-returns-2
 returns-2 c =
@@ -25,6 +27,6 @@ is-ancestor-spec =
     (λ c κs. search needs)
     (λ c κs. search needs)
     (λ c κs. search needs)
-    (λ c. search needs)
+    (λ c κs. search needs)
     returns
     returns-2)

@@ -1,18 +1,10 @@
 -- `prefixed_fault` meets its contract: its tests are the definition's, of the class with that name.
 use borrow.Author.Needs.{needs}
 use mathlib.Core.Path.{_∙_}
-use native.Mathlib.Omega.{arith}
-use Rattle.words.specs.Look.{class-number-within}
 use Rattle.bodies.specs.Below.{linesAt}
 use Rattle.bodies.specs.Held.{prefixed}
 use Rattle.bodies.proofs.prefixed_fault.Statement.{statement}
 use Rattle.bodies.proofs.prefixed_fault.Tie as tie
-
-is-ancestor-requires : tie.Need-is-ancestor-requires
-is-ancestor-requires c κs =
-    let k = c .before .before in
-    let a = k .before .before .before .before .before .args in
-    omega (arith, k .class-number .ensures, class-number-within (a .text .now) (a .tables .now) (a .class .now))
 
 returns : tie.Need-returns
 returns c =
@@ -32,6 +24,6 @@ prefixed-fault-spec =
     (λ c κs. search needs)
     (λ c κs. search needs)
     (λ c κs. search needs)
-    is-ancestor-requires
+    (λ c κs. search needs)
     (λ c κs. search needs)
     returns)

@@ -1,9 +1,4 @@
 -- A refused text prints its refusal, an accepted one its lines.
-use mathlib.Core.Path.{ap, _∙_}
-use Prim.Native.Nat.{ℕ}
-use lib.ListN.{length}
-use mathlib.Core.List.{List}
-use Rattle.image.specs.Append.{over}
 use Rattle.cishmolaq.specs.Lines.{line-small}
 use Rattle.cishmolaq.specs.Laws.{refusal-printed, refused-by, accepted-by}
 use borrow.Author.Needs.{needs}
@@ -40,9 +35,8 @@ same-length c = search needs
 returns : tie.Need-returns
 returns c =
     let a = c .before .before .before .before .before .before .before .before .before .before .before .before .args in
-    let w = c .before .before .write-refusal .ensures in
-    let q = refusal-printed (a .text .now) _ _ (refused-by (c .before .before .before .before .before .before .before .before .read-text .ensures) _ _ (c .before .before .before .before .before .verdict .given .1)) in
-    record { bytes = w .bytes ∙ ap (λ (l : List ℕ). over l (a .out .now)) q; count = w .count ∙ ap length q }
+    refusal-printed (a .text .now) _ _ (refused-by (c .before .before .before .before .before .before .before .before .read-text .ensures) _ _ (c .before .before .before .before .before .verdict .given .1))
+    (c .before .before .write-refusal .ensures)
 
 same-length-2 : tie.Need-same-length-2
 same-length-2 c = search needs

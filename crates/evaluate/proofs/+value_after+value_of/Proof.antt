@@ -1,5 +1,6 @@
 -- `value_of` and `value_after` meet their contracts: a token is the model's, a second operand is read where the first ends,
--- and an operand's value in a part of the line is the one that it has in the whole. The levels fall.
+-- an operator has a value where its operands have, and an operand's value in a part of the line is the one that it has in the
+-- whole. The levels fall.
 use borrow.Author.Needs.{needs}
 use borrow.Fn.Kinds.{In}
 use borrow.Fn.PlainCycle.{Measures, is, falls, and}
@@ -9,8 +10,8 @@ use native.Mathlib.Omega.{arith}
 use Rattle.model.specs.Expression.{readLevels}
 use Rattle.syntax.specs.Reading.{operand-none, no-levels}
 use Rattle.syntax.specs.Tokens.{saidOperator}
-use Rattle.state.specs.Turn.{fieldIn}
-use Rattle.evaluate.specs.Valued.{valued, joined, moved, operand-value, value-within, value-of-two, value-of-one, value-of-leaf, value-of-none, first-length}
+use Rattle.state.specs.Turn.{valueIn}
+use Rattle.evaluate.specs.Valued.{valued, joined, moved, apply-value, operand-value, value-within, value-of-two, value-of-one, value-of-leaf, value-of-none, first-length}
 use Rattle.evaluate.proofs.value_after.Reads as value-after
 use Rattle.evaluate.proofs.value_after.Kinds as value-after-kinds
 use Rattle.evaluate.proofs.+value_after+value_of.Lts-value_after as value-after-lts
@@ -61,24 +62,24 @@ pub +value-after+value-of-spec : {M : Type 1} → statement M
     let s = k .before .before .before .before .before .before .before in
     let a = s .args in
     let m = c .before .part .given in
-    omega (arith, value-within (fieldIn (a .text .now) (a .tables .now) (a .class) (a .own .now)) (a .arg) (a .got) (a .line .now) (a .at + 1) (readLevels (a .levels) _) _ (m .0 .1 .0) (omega arith) (sym (m .1) ∙ k .value-of .ensures), s .good .1 .1 .1 .1 .1 .1 .0 .0))
+    omega (arith, value-within (valueIn (a .text .now) (a .tables .now) (a .class) (a .own .now) (a .arg) (a .got)) (a .line .now) (a .at + 1) (readLevels (a .levels) _) _ (m .0 .1 .0) (omega arith) (sym (m .1) ∙ k .value-of .ensures), s .good .1 .1 .1 .1 .1 .1 .0 .0))
     (λ c. search needs)
     -- read in the part
     (λ c.
     let k = c .before .before .before in
     let a = k .before .before .before .before .before .before .before .args in
     ap (moved (a .at + 1)) (sym (c .before .part .given .1) ∙ k .value-of .ensures)
-    ∙ operand-value (fieldIn (a .text .now) (a .tables .now) (a .class) (a .own .now)) (a .arg) (a .got) (a .line .now) (a .levels) (a .at) (k .before .before .if1 .taken))
+    ∙ operand-value (valueIn (a .text .now) (a .tables .now) (a .class) (a .own .now) (a .arg) (a .got)) (a .line .now) (a .levels) (a .at) (k .before .before .if1 .taken))
     -- not read in the part
     (λ c.
     let k = c .before .before in
     let a = k .before .before .before .before .before .before .before .args in
     ap (moved (a .at + 1)) (sym (c .enum-told .given .1) ∙ k .value-of .ensures)
-    ∙ operand-value (fieldIn (a .text .now) (a .tables .now) (a .class) (a .own .now)) (a .arg) (a .got) (a .line .now) (a .levels) (a .at) (k .before .before .if1 .taken))
+    ∙ operand-value (valueIn (a .text .now) (a .tables .now) (a .class) (a .own .now) (a .arg) (a .got)) (a .line .now) (a .levels) (a .at) (k .before .before .if1 .taken))
     -- nothing is behind `at`
     (λ c.
     let a = c .before .before .before .before .before .args in
-    sym (ap (valued (fieldIn (a .text .now) (a .tables .now) (a .class) (a .own .now)) (a .arg) (a .got) (a .line .now)) (operand-none (a .line .now) (a .levels) (a .at) (c .if1 .left)))))
+    sym (ap (valued (valueIn (a .text .now) (a .tables .now) (a .class) (a .own .now) (a .arg) (a .got)) (a .line .now)) (operand-none (a .line .now) (a .levels) (a .at) (c .if1 .left)))))
     λ t. value-of-lts.spec
     (word-end-reads.Asked, word-end-reads.Learnt, token-of-reads.Asked, token-of-reads.Learnt, value-after-below t, value-after.Post, joined-reads.Asked, joined-reads.Learnt, leaf-value-reads.Asked, leaf-value-reads.Learnt)
     (value-of-at t)
@@ -86,7 +87,7 @@ pub +value-after+value-of-spec : {M : Type 1} → statement M
     -- no levels are left
     (λ c.
     let a = c .before .before .before .before .before .args in
-    sym (ap (valued (fieldIn (a .text .now) (a .tables .now) (a .class) (a .own .now)) (a .arg) (a .got) (a .rest .now)) (no-levels (a .rest .now) (a .levels) _ (c .if1 .taken))))
+    sym (ap (valued (valueIn (a .text .now) (a .tables .now) (a .class) (a .own .now) (a .arg) (a .got)) (a .rest .now)) (no-levels (a .rest .now) (a .levels) _ (c .if1 .taken))))
     (λ c. search needs)
     (λ c κs. search needs)
     -- the first word is within the line
@@ -111,28 +112,29 @@ pub +value-after+value-of-spec : {M : Type 1} → statement M
     let a = w .before .before .before .before .before .before .args in
     c .joined .ensures
     ∙ ap (joined (saidOperator (f .before .before .token .given .0 .0)) (c .before .before .before .first .given .0 .0)) (c .before .value-after2 .ensures)
-    ∙ value-of-two (fieldIn (a .text .now) (a .tables .now) (a .class) (a .own .now)) (a .arg) (a .got) _ _ _ (w .before .if1 .left) (w .word-end .ensures) _ (k .token-of .ensures)
-    _ (f .before .before .token .given .1) _ _ (sym (c .before .before .before .first .given .1) ∙ f .value-after .ensures))
+    ∙ value-of-two (valueIn (a .text .now) (a .tables .now) (a .class) (a .own .now) (a .arg) (a .got)) _ _ _ (w .before .if1 .left) (w .word-end .ensures) _ (k .token-of .ensures)
+    (apply-value (a .text .now) (a .tables .now) (a .class) (a .own .now) (a .arg) (a .got)) _ (f .before .before .token .given .1) _ _ (sym (c .before .before .before .first .given .1) ∙ f .value-after .ensures))
     -- an operator without a first operand
     (λ c.
     let f = c .before .before in
     let k = f .before .before .before .before in
     let w = k .before .before in
     let a = w .before .before .before .before .before .before .args in
-    value-of-one (fieldIn (a .text .now) (a .tables .now) (a .class) (a .own .now)) (a .arg) (a .got) _ _ _ (w .before .if1 .left) (w .word-end .ensures) _ (k .token-of .ensures)
-    _ (f .before .before .token .given .1) (sym (c .enum-told .given .1) ∙ f .value-after .ensures))
+    value-of-one (valueIn (a .text .now) (a .tables .now) (a .class) (a .own .now) (a .arg) (a .got)) _ _ _ (w .before .if1 .left) (w .word-end .ensures) _ (k .token-of .ensures)
+    (apply-value (a .text .now) (a .tables .now) (a .class) (a .own .now) (a .arg) (a .got)) _ (f .before .before .token .given .1) (sym (c .enum-told .given .1) ∙ f .value-after .ensures))
     -- a leaf
     (λ c.
     let m = c .before .before .before in
     let k = m .before .before in
     let w = k .before .before in
     let a = w .before .before .before .before .before .before .args in
-    value-of-leaf (fieldIn (a .text .now) (a .tables .now) (a .class) (a .own .now)) (a .arg) (a .got) _ _ _ (w .before .if1 .left) (w .word-end .ensures) _ (k .token-of .ensures)
-    _ (m .token2 .given .1) _ (c .leaf-value .ensures))
+    c .leaf-value .ensures
+    ∙ value-of-leaf (valueIn (a .text .now) (a .tables .now) (a .class) (a .own .now) (a .arg) (a .got)) _ _ _ (w .before .if1 .left) (w .word-end .ensures) _ (k .token-of .ensures)
+    _ (m .token2 .given .1))
     -- no token of an expression
     (λ c.
     let k = c .before .before in
     let w = k .before .before in
     let a = w .before .before .before .before .before .before .args in
-    value-of-none (fieldIn (a .text .now) (a .tables .now) (a .class) (a .own .now)) (a .arg) (a .got) _ _ _ (w .before .if1 .left) (w .word-end .ensures) _ (k .token-of .ensures)
+    value-of-none (valueIn (a .text .now) (a .tables .now) (a .class) (a .own .now) (a .arg) (a .got)) _ _ _ (w .before .if1 .left) (w .word-end .ensures) _ (k .token-of .ensures)
     (c .enum-told2 .given .1))

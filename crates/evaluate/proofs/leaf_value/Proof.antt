@@ -1,23 +1,22 @@
--- `leaf_value` meets its contract: each arm is the definition's clause of that leaf.
+-- `leaf_value` meets its contract: each arm is the definition's clause of that leaf, and only a field can be unknown.
 use borrow.Author.Needs.{needs}
-use Rattle.model.specs.Expression.{valueOf}
+use Rattle.state.specs.Turn.{valueIn}
 use Rattle.evaluate.proofs.leaf_value.Statement.{statement}
 use Rattle.evaluate.proofs.leaf_value.Tie as tie
 
 returns : tie.Need-returns
-unfolding valueOf
+unfolding valueIn
 returns c = rw (c .before .leaf .given .1)
 
 returns-2 : tie.Need-returns-2
-unfolding valueOf
-returns-2 c = rw (c .before .enum-told .given .1) (c .field-value .ensures)
+returns-2 c = rw (c .before .enum-told .given .1) (c .field-value .ensures _ _)
 
 returns-3 : tie.Need-returns-3
-unfolding valueOf
+unfolding valueIn
 returns-3 c = rw (c .enum-told2 .given .1)
 
 returns-4 : tie.Need-returns-4
-unfolding valueOf
+unfolding valueIn
 returns-4 c = rw (c .enum-told3 .given .1)
 
 pub leaf-value-spec : {M : Type 1} → statement M

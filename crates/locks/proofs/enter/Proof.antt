@@ -2,7 +2,7 @@
 use borrow.Author.Needs.{needs}
 use mathlib.Core.Path.{ap, _∙_}
 use Rattle.state.specs.Row.{objectRow}
-use Rattle.locks.specs.Begun.{pastRow, entered}
+use Rattle.state.specs.Request.{pastRow, entered}
 use Rattle.locks.proofs.enter.Statement.{statement}
 use Rattle.locks.proofs.enter.Tie as tie
 
@@ -10,26 +10,33 @@ returns : tie.Need-returns
 unfolding entered
 returns c =
     let e = c .before .before in
-    let f = e .before .before .before in
-    rw (f .first .given .1) (e .enter-object .ensures ∙ ap (objectRow _ _ _ 0) (f .before .before .before .before .name-message .ensures))
+    let m = e .before .before .before .before in
+    rw (m .before .before .before .first .given .1) (e .enter-object .ensures ∙ ap (objectRow _ _ _ 0) (m .name-message .ensures))
 
 returns-2 : tie.Need-returns-2
 unfolding entered
 returns-2 c =
     let e = c .before .before in
-    let f = e .before .before .before in
-    rw (f .first2 .given .1) (e .enter-past .ensures ∙ ap (pastRow _) (f .before .before .before .before .name-message .ensures))
+    let m = e .before .before .before .before in
+    rw (m .before .before .before .first2 .given .1) (e .enter-past .ensures ∙ ap (pastRow _) (m .name-message2 .ensures))
+
+returns-3 : tie.Need-returns-3
+unfolding entered
+returns-3 c = rw (c .enum-told .given .1)
 
 pub enter-spec : {M : Type 1} → statement M
 enter-spec =
     tie.close
     (tie.spec
+    (λ c. search needs)
+    (λ c κs. search needs)
     (λ c κs. search needs)
     (λ c. search needs)
     (λ c κs. search needs)
-    (λ c. search needs)
     (λ c κs. search needs)
+    (λ c. search needs)
     (λ c. search needs)
     returns
     (λ c. search needs)
-    returns-2)
+    returns-2
+    returns-3)

@@ -1,6 +1,6 @@
 -- `enter_past` meets its contract: four stores, in the definition's order.
 use borrow.Author.Needs.{needs}
-use Rattle.locks.specs.Begun.{pastRow}
+use Rattle.state.specs.Request.{pastRow}
 use Rattle.locks.proofs.enter_past.Statement.{statement}
 use Rattle.locks.proofs.enter_past.Tie as tie
 

@@ -1,6 +1,7 @@
 -- `first_object` meets its contract: the body is that of the object's class and the name sent.
 use borrow.Author.Needs.{needs}
-use Rattle.locks.specs.Begun.{first-past, first-on}
+use mathlib.Core.Path.{sym, ap, _∙_}
+use Rattle.locks.specs.Begun.{startBy, first-past, first-on}
 use Rattle.locks.proofs.first_object.Statement.{statement}
 use Rattle.locks.proofs.first_object.Tie as tie
 
@@ -11,11 +12,24 @@ returns c =
 
 returns-2 : tie.Need-returns-2
 returns-2 c =
-    let w = c .before in
+    let b = c .before in
+    let k = b .before .before in
+    let w = k .before in
     let t = w .before in
     let n = t .before in
-    first-on _ _ _ _ _ (n .before .object-from .ensures) (n .object-count .ensures) (t .if1 .left)
-    _ (w .object-word .ensures) _ _ (c .body-at .ensures)
+    ap (startBy (n .before .object-from .result)) (sym (b .body .given .1))
+    ∙ first-on _ _ _ _ _ (n .before .object-from .ensures) (n .object-count .ensures) (t .if1 .left)
+    _ (w .object-word .ensures) _ (k .body-at .ensures)
+
+returns-3 : tie.Need-returns-3
+returns-3 c =
+    let k = c .before .before in
+    let w = k .before in
+    let t = w .before in
+    let n = t .before in
+    ap (startBy (n .before .object-from .result)) (sym (c .enum-told .given .1))
+    ∙ first-on _ _ _ _ _ (n .before .object-from .ensures) (n .object-count .ensures) (t .if1 .left)
+    _ (w .object-word .ensures) _ (k .body-at .ensures)
 
 pub first-object-spec : {M : Type 1} → statement M
 first-object-spec =
@@ -26,4 +40,7 @@ first-object-spec =
     returns
     (λ c κs. search needs)
     (λ c κs. search needs)
-    returns-2)
+    (λ c. search needs)
+    (λ c. search needs)
+    returns-2
+    returns-3)

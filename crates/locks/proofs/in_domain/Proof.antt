@@ -2,7 +2,7 @@
 use borrow.Author.Needs.{needs}
 use Prim.Native.Nat.{ℕ}
 use mathlib.Core.Path.{ap, _∙_}
-use Rattle.words.specs.View.{classWord, bit}
+use Rattle.words.specs.View.{bit}
 use Rattle.state.specs.Request.{inDomain}
 use Rattle.locks.proofs.in_domain.Statement.{statement}
 use Rattle.locks.proofs.in_domain.Tie as tie

@@ -1,6 +1,6 @@
 -- `name_message` meets its contract: five stores, in the definition's order.
 use borrow.Author.Needs.{needs}
-use Rattle.locks.specs.Begun.{namedRow}
+use Rattle.state.specs.Request.{namedRow}
 use Rattle.locks.proofs.name_message.Statement.{statement}
 use Rattle.locks.proofs.name_message.Tie as tie
 

@@ -53,8 +53,8 @@ enter-object-requires c κs = search needs
 enum-known-turn-6 : tie.Need-enum-known-turn-6
 enum-known-turn-6 c = search needs
 
-put-requires : tie.Need-put-requires
-put-requires c κs = search needs
+finish-requires : tie.Need-finish-requires
+finish-requires c κs = search needs
 
 returns : tie.Need-returns
 unfolding carried
@@ -118,7 +118,7 @@ same-length-10 c = search needs
 
 returns-9 : tie.Need-returns-9
 unfolding carried
-returns-9 c = rw (c .before .before .before .before .before .turn6 .given .1) (record { says = refl; row-is = c .before .before .put .ensures; values-are = refl })
+returns-9 c = rw (c .before .before .before .before .before .turn6 .given .1) (record { says = refl; row-is = c .before .before .finish .ensures; values-are = refl })
 
 pub carry-spec : {M : Type 1} → statement M
 carry-spec =
@@ -140,7 +140,7 @@ carry-spec =
     enum-known-turn-5
     enter-object-requires
     enum-known-turn-6
-    put-requires
+    finish-requires
     returns
     same-length
     same-length-2

@@ -1,10 +1,10 @@
--- `send_to` meets its contract: the class and the method are there, then the send is granted or held up.
+-- `send_to` meets its contract: the class and the method are there, in each class of a domain, then the send is granted or held up.
 use borrow.Author.Needs.{needs}
 use native.Mathlib.Omega.{arith}
-use mathlib.Core.Path.{ap}
+use mathlib.Core.Path.{sym, ap, _∙_}
 use Rattle.slots.specs.Phases.{leaves-as}
 use Rattle.sends.specs.Outcomes.{leaves-refused}
-use Rattle.sends.specs.Sent.{refusal-lt, sent-refused, sent-there, few}
+use Rattle.sends.specs.Sent.{refusal-lt, sent-refused, sent-lacking, sent-there, few}
 use Rattle.sends.proofs.send_to.Statement.{statement}
 use Rattle.sends.proofs.send_to.Tie as tie
 
@@ -13,21 +13,33 @@ returns c =
     λ values. leaves-as (sent-refused _ _ values _ _ _ _ _ _ _ (c .before .method-refusal .ensures) (c .if1 .taken))
     (leaves-refused _ values _ (c .if1 .taken) (refusal-lt _ _ _ _ (c .before .method-refusal .ensures)))
 
+returns-2 : tie.Need-returns-2
+returns-2 c =
+    let l = c .before in
+    let w = l .before .before .before in
+    let i = w .before .before .before in
+    λ values. leaves-as (sent-lacking _ _ values _ _ _ _ _ _ _ (i .before .method-refusal .ensures) (i .if1 .left) _ (w .wanted-of .ensures)
+    (sym (l .domain-lacks .ensures) ∙ c .if2 .taken))
+    (leaves-refused _ values 24 (omega arith) (omega arith))
+
 grant-requires : tie.Need-grant-requires
 grant-requires c κs =
-    let w = c .before in
+    let w = c .before .before .before .before .before in
     let i = w .before .before .before in
     let m = i .before in
     let s = m .before .before .before .before .before in
     let k = few _ _ _ _ (m .method-refusal .ensures) (i .if1 .left) in
     (s .pre, omega (arith, k, ap (λ q. q .place) (w .wanted-of .ensures)))
 
-returns-2 : tie.Need-returns-2
-returns-2 c =
+returns-3 : tie.Need-returns-3
+returns-3 c =
     let g = c .before .before in
-    let w = g .before .before in
+    let o = g .before .before in
+    let l = o .before in
+    let w = l .before .before .before in
     let i = w .before .before .before in
-    λ values. leaves-as (sent-there _ _ values _ _ _ _ _ _ _ (i .before .method-refusal .ensures) (i .if1 .left) _ (w .wanted-of .ensures)) (g .grant .ensures values)
+    λ values. leaves-as (sent-there _ _ values _ _ _ _ _ _ _ (i .before .method-refusal .ensures) (i .if1 .left) _ (w .wanted-of .ensures)
+    (sym (l .domain-lacks .ensures) ∙ o .if2 .left)) (g .grant .ensures values)
 
 pub send-to-spec : {M : Type 1} → statement M
 send-to-spec =
@@ -43,6 +55,12 @@ send-to-spec =
     (λ c. search needs)
     (λ c. search needs)
     (λ c κs. search needs)
+    (λ c. search needs)
+    (λ c. search needs)
+    (λ c. search needs)
+    (λ c κs. search needs)
+    (λ c. search needs)
+    returns-2
     grant-requires
     (λ c. search needs)
-    returns-2)
+    returns-3)

@@ -1,8 +1,8 @@
--- `send_to_object` meets its contract: as `send_to` does.
+-- `send_to_object` meets its contract: as `send_to` does, and an object is no domain.
 use borrow.Author.Needs.{needs}
 use Rattle.slots.specs.Phases.{leaves-as}
 use Rattle.sends.specs.Outcomes.{leaves-refused}
-use Rattle.sends.specs.Sent.{refusal-lt, sent-refused, sent-there, few, to-object}
+use Rattle.sends.specs.Sent.{refusal-lt, sent-refused, sent-there, few, to-object, object-lacks}
 use Rattle.sends.proofs.send_to_object.Statement.{statement}
 use Rattle.sends.proofs.send_to_object.Tie as tie
 
@@ -25,7 +25,8 @@ returns-2 c =
     let g = c .before .before in
     let w = g .before .before in
     let i = w .before .before .before in
-    λ values. leaves-as (sent-there _ _ values _ _ _ _ _ _ _ (i .before .method-refusal .ensures) (i .if1 .left) _ (w .wanted-of .ensures)) (g .grant-object .ensures values)
+    λ values. leaves-as (sent-there _ _ values _ _ _ _ _ _ _ (i .before .method-refusal .ensures) (i .if1 .left) _ (w .wanted-of .ensures)
+    (object-lacks _ _ _ _ _ _ _ (w .wanted-of .ensures))) (g .grant-object .ensures values)
 
 pub send-to-object-spec : {M : Type 1} → statement M
 send-to-object-spec =

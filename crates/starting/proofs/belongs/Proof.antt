@@ -17,7 +17,7 @@ unfolding belongs
 returns-2 c =
     let w = c .before in
     let a = w .before .before .before .args in
-    rw (ne-eqb (a .other) (a .class) (w .before .if1 .left)) (c .bit .ensures ∙ ap (λ (m : ℕ). bit m (a .class)) (w .class-word .ensures))
+    rw (ne-eqb (a .other) (a .class) (w .before .if1 .left)) (c .has-bit .ensures ∙ ap (λ (m : ℕ). bit m (a .class)) (w .class-word .ensures))
 
 pub belongs-spec : {M : Type 1} → statement M
 belongs-spec = tie.close (tie.spec returns (λ c κs. search needs) (λ c κs. search needs) returns-2)

@@ -7,10 +7,9 @@ use lib.ListN.{drop, getD}
 use borrow.Author.Needs.{needs}
 use Rattle.model.specs.Base.{upto}
 use Rattle.lex.specs.Piece.{wordsAfter}
-use Rattle.words.specs.View.{partOf, objectWord}
+use Rattle.words.specs.View.{partOf, valueOf, objectWord}
 use Rattle.words.specs.Upto.{upto-more}
 use Rattle.words.specs.Look.{shownCount}
-use Rattle.image.specs.Written.{valueOf}
 use Rattle.image.specs.Append.{Appended, appended-then, appended-as, appended-length}
 use Rattle.image.specs.Sizes.{shown-le}
 use Rattle.image.specs.Values.{values-counted, word-at, words-behind}

@@ -3,7 +3,7 @@ use mathlib.Core.Path.{_≡_, refl, ap, _∙_}
 use Prim.Native.Nat.{_-_, _≤_}
 use borrow.Author.Needs.{needs}
 use native.Mathlib.Omega.{arith}
-use Rattle.sends.specs.Sent.{heldUpto, held-more}
+use Rattle.sends.specs.Holders.{heldUpto, held-more}
 use Rattle.sends.proofs.clash.held_by_all.Statement.{statement}
 use Rattle.sends.proofs.clash.held_by_all.Tie as tie
 

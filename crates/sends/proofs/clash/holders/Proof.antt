@@ -1,11 +1,11 @@
--- `holders` meets its contract: each turn adds the bit of a slot that holds one of the methods.
+-- `holders` meets its contract: each turn adds the bit of a slot that is a holder.
+use borrow.Author.Needs.{needs}
 use mathlib.Core.Path.{_≡_, refl, sym, ap, _∙_}
 use mathlib.Core.Logic.{⊎-elim}
 use Prim.Native.Nat.{_-_, _≤_}
-use borrow.Author.Needs.{needs}
 use native.Mathlib.Omega.{arith}
 use Rattle.sends.specs.Way.{gathered, gather, pass}
-use Rattle.sends.specs.Sent.{holding, holds-part}
+use Rattle.sends.specs.Holders.{holding}
 use Rattle.sends.proofs.clash.holders.Statement.{statement}
 use Rattle.sends.proofs.clash.holders.Tie as tie
 
@@ -19,19 +19,20 @@ loop-holds : tie.Need-loop-holds Inv-loop μ-loop
 unfolding gathered
 loop-holds c = (omega arith, refl)
 
+is-holder-requires : tie.Need-is-holder-requires Inv-loop μ-loop
+is-holder-requires c κs = record { slot = omega arith; long = search needs }
+
 loop-again : tie.Need-loop-again Inv-loop μ-loop
 loop-again c =
     let t = c .before in
-    let l = t .before .before .before in
+    let l = t .before .before in
     let a = l .before .before .args in
     let p = holding (a .state .now) (a .word) (a .class) (a .methods) in
-    let n = l .loop .slot in
-    let e = sym (holds-part (a .state .now) (a .word) (a .class) (a .methods) n) ∙ sym (t .holds .ensures) in
     let inv = l .loop .inv in (
       omega arith,
       ⊎-elim
-          (λ w. w .1 ∙ gather p (l .loop .mask) n (omega arith) (inv .1) (e ∙ w .0 .taken))
-          (λ w. w .1 ∙ pass p (l .loop .mask) n (omega arith) (inv .1) (e ∙ w .0 .left))
+          (λ w. w .1 ∙ gather p (l .loop .mask) (l .loop .slot) (omega arith) (inv .1) (sym (t .is-holder .ensures) ∙ w .0 .taken))
+          (λ w. w .1 ∙ pass p (l .loop .mask) (l .loop .slot) (omega arith) (inv .1) (sym (t .is-holder .ensures) ∙ w .0 .left))
           (c .if1 .came),
     )
 
@@ -49,15 +50,7 @@ holders-spec =
     Inv-loop
     μ-loop
     loop-holds
-    (λ c. search needs)
-    (λ c. search needs)
-    (λ c. search needs)
-    (λ c. search needs)
-    (λ c. search needs)
-    (λ c. search needs)
-    (λ c. search needs)
-    (λ c. search needs)
-    (λ c κs. search needs)
+    is-holder-requires
     (λ c. search needs)
     (λ c. search needs)
     (λ c. search needs)

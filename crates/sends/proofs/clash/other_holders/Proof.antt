@@ -3,40 +3,29 @@ use borrow.Author.Needs.{needs}
 use native.Mathlib.Omega.{arith}
 use mathlib.Core.Path.{sym, _∙_}
 use Rattle.sends.specs.Way.{out-fits, out, stays}
-use Rattle.sends.specs.Sent.{holds-part}
 use Rattle.sends.proofs.clash.other_holders.Statement.{statement}
 use Rattle.sends.proofs.clash.other_holders.Tie as tie
 
 sub-result : tie.Need-sub-result
 sub-result c =
     let h = c .before in
-    let m = h .before .before in
-    out-fits _ _ _ 8 (search needs) (omega arith) (m .holders .ensures) (sym (holds-part _ _ _ _ _) ∙ sym (h .holds .ensures) ∙ c .if1 .taken)
+    out-fits _ _ _ 8 (search needs) (omega arith) (h .before .holders .ensures) (sym (h .is-holder .ensures) ∙ c .if1 .taken)
 
 returns : tie.Need-returns
 returns c =
     let h = c .before in
-    let m = h .before .before in
-    out _ _ _ 8 (search needs) (omega arith) (m .holders .ensures) (sym (holds-part _ _ _ _ _) ∙ sym (h .holds .ensures) ∙ c .if1 .taken)
+    out _ _ _ 8 (search needs) (omega arith) (h .before .holders .ensures) (sym (h .is-holder .ensures) ∙ c .if1 .taken)
 
 returns-2 : tie.Need-returns-2
 returns-2 c =
     let h = c .before in
-    let m = h .before .before in
-    stays _ _ _ 8 (search needs) (omega arith) (m .holders .ensures) (sym (holds-part _ _ _ _ _) ∙ sym (h .holds .ensures) ∙ c .if1 .left)
+    stays _ _ _ 8 (search needs) (omega arith) (h .before .holders .ensures) (sym (h .is-holder .ensures) ∙ c .if1 .left)
 
 pub other-holders-spec : {M : Type 1} → statement M
 other-holders-spec =
     tie.close
     (tie.spec
     (λ c κs. search needs)
-    (λ c. search needs)
-    (λ c. search needs)
-    (λ c. search needs)
-    (λ c. search needs)
-    (λ c. search needs)
-    (λ c. search needs)
-    (λ c. search needs)
     (λ c κs. search needs)
     (λ c. search needs)
     sub-result

@@ -4,7 +4,7 @@ use Prim.Native.Nat.{ℕ}
 use mathlib.Core.Path.{ap, _∙_}
 use Rattle.locks.specs.Asked.{asked}
 use Rattle.sends.specs.Way.{gathered, besides}
-use Rattle.sends.specs.Sent.{holding, target-in-the-way}
+use Rattle.sends.specs.Holders.{holding, target-in-the-way}
 use Rattle.sends.proofs.clash.target_clashing.Statement.{statement}
 use Rattle.sends.proofs.clash.target_clashing.Tie as tie
 

@@ -1,7 +1,7 @@
 -- `target_word` meets its contract, by the target's kind.
 use borrow.Author.Needs.{needs}
 use Rattle.locks.specs.Asked.{asked}
-use Rattle.sends.specs.Sent.{word-of-object, word-of-class}
+use Rattle.sends.specs.Holders.{word-of-object, word-of-class}
 use Rattle.sends.proofs.clash.target_word.Statement.{statement}
 use Rattle.sends.proofs.clash.target_word.Tie as tie
 

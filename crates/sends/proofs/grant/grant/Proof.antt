@@ -1,13 +1,30 @@
--- `grant` meets its contract: 40 with the lowest bit of the mask, or the locks and then the message.
+-- `grant` meets its contract: 40 with the lowest bit of the mask; or 24 where the message starts nowhere; or the locks and then the
+-- message.
 use borrow.Author.Needs.{needs}
 use native.Mathlib.Omega.{arith}
-use mathlib.Core.Path.{refl}
+use mathlib.Core.Path.{_≡_, refl, ap}
+use mathlib.Core.List.{[], _∷_}
+use mathlib.Core.Logic.{⊎-elim}
+use Prim.Native.Nat.{ℕ}
 use lib.Count.{trailing-le}
+use denote.Enum.Declared as Enum
+use types.Run.{OneOf}
+use Rattle.locks.proofs.First.{the-type}
+use Rattle.locks.specs.declared.First.{First}
+use Rattle.locks.specs.declared.First.the-variants.{On, Past, Nowhere}
+use Rattle.locks.specs.Begun.{saidFirst}
+use Rattle.state.specs.Request.{nowhere}
 use Rattle.slots.specs.Phases.{leaves-as}
-use Rattle.sends.specs.Outcomes.{says-done, says-held}
-use Rattle.sends.specs.Sent.{held-up, free-way, locked-begun}
+use Rattle.sends.specs.Outcomes.{says-done, says-held, leaves-refused}
+use Rattle.sends.specs.Granted.{held-up, starts-nowhere, starts-there, locked-entered}
 use Rattle.sends.proofs.grant.grant.Statement.{statement}
 use Rattle.sends.proofs.grant.grant.Tie as tie
+
+-- An answer with another tag than Nowhere's says another thing.
+somewhere : (f : First) → OneOf (0 ∷ 1 ∷ []) (Enum.tagOf the-type f) → saidFirst f ≡ nowhere → ⊥
+somewhere (On o i j) k e = let z : _≡_ {A = ℕ} 0 1 = cc in omega arith
+somewhere (Past o) k e = let z : _≡_ {A = ℕ} 0 1 = cc in omega arith
+somewhere Nowhere k e = ⊎-elim (λ x. omega arith) (λ x. omega arith) k
 
 add-result : tie.Need-add-result
 add-result c = omega (arith, trailing-le 32 (c .before .clashing .result))
@@ -20,12 +37,25 @@ returns c =
 
 returns-2 : tie.Need-returns-2
 returns-2 c =
-    let m = c .before .before in
-    let k = m .before .before .before .before in
-    let i = k .before .before in
-    let w = i .before .before .before .before .before .pre .0 in
-    λ values. leaves-as (free-way _ _ _ w _ values _ (i .before .clashing .ensures) (i .if1 .left))
-    (record { says = says-done; words-are = locked-begun _ _ _ w _ _ _ (k .lock .ensures) (m .start-message .ensures); values-are = refl })
+    let f = c .before .before in
+    let i = f .before .before .before in
+    let m = i .before in
+    λ values. leaves-as (starts-nowhere _ _ _ (m .before .before .before .before .pre .0) _ values _ (m .clashing .ensures) (i .if1 .left)
+    _ (f .first-object .ensures) (ap saidFirst (c .enum-told .given .1)))
+    (leaves-refused _ values 24 (omega arith) (omega arith))
+
+returns-3 : tie.Need-returns-3
+returns-3 c =
+    let e = c .before .before in
+    let l = e .before .before .before .before in
+    let k = l .before .before in
+    let f = k .before in
+    let i = f .before .before .before in
+    let m = i .before in
+    let w = m .before .before .before .before .pre .0 in
+    λ values. leaves-as (starts-there _ _ _ w _ values _ (m .clashing .ensures) (i .if1 .left)
+    _ (f .first-object .ensures) (somewhere (f .first-object .result) (k .match .keys2)))
+    (record { says = says-done; words-are = locked-entered _ _ _ w _ _ _ _ (l .lock .ensures) (e .start-message .ensures); values-are = refl })
 
 pub grant-spec : {M : Type 1} → statement M
 grant-spec =
@@ -35,7 +65,14 @@ grant-spec =
     add-result
     (λ c. search needs)
     returns
+    (λ c. search needs)
+    (λ c. search needs)
+    (λ c. search needs)
+    (λ c κs. search needs)
+    (λ c. search needs)
+    (λ c. search needs)
+    returns-2
     (λ c κs. search needs)
     (λ c κs. search needs)
     (λ c. search needs)
-    returns-2)
+    returns-3)

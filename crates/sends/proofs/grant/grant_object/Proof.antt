@@ -8,7 +8,8 @@ use Rattle.state.specs.Calls.{inTheWay, grantedOr}
 use Rattle.locks.specs.Asked.{asked}
 use Rattle.slots.specs.Phases.{leaves-as}
 use Rattle.sends.specs.Outcomes.{says-done, whole-lent}
-use Rattle.sends.specs.Sent.{at-once-free, free-way}
+use Rattle.sends.specs.Holders.{at-once-named, at-once-free}
+use Rattle.sends.specs.Granted.{starts-there, at-once-there}
 use Rattle.sends.proofs.grant.grant_object.Statement.{statement}
 use Rattle.sends.proofs.grant.grant_object.Tie as tie
 
@@ -27,8 +28,9 @@ returns c =
     let s = o .before .before .before .before in
     let a = s .args in
     let once = sym (o .starts-at-once .ensures) ∙ i .if1 .taken in
-    λ values. leaves-as (free-way (a .text .now) (a .state .now) (a .slot) (s .pre .0) (asked (a .wanted)) values 0
-    (at-once-free (a .state .now) (asked (a .wanted)) once (a .text .now) (a .slot) (s .pre .1 .kind-is)) refl)
+    λ values. leaves-as (starts-there (a .text .now) (a .state .now) (a .slot) (s .pre .0) (asked (a .wanted)) values 0
+    (at-once-free (a .state .now) (asked (a .wanted)) once (a .text .now) (a .slot) (s .pre .1 .kind-is)) refl
+    _ refl (at-once-there (a .text .now) _ (asked (a .wanted)) (s .pre .1) (at-once-named (a .state .now) (asked (a .wanted)) once)))
     (record { says = says-done; words-are = t .take-object .ensures (a .text .now); values-are = refl })
 
 returns-2 : tie.Need-returns-2

@@ -5,7 +5,7 @@ use Rattle.locks.specs.Locking.{lockedTarget}
 use Rattle.locks.specs.Asked.{asked}
 use Rattle.state.specs.Calls.{withRow}
 use Rattle.slots.specs.Lent.{part-is, lent-is}
-use Rattle.sends.specs.Sent.{domain-locked, target-locked}
+use Rattle.sends.specs.Granted.{domain-locked, target-locked}
 use Rattle.sends.proofs.grant.lock.Statement.{statement}
 use Rattle.sends.proofs.grant.lock.Tie as tie
 

@@ -1,6 +1,6 @@
 -- `lock_class` meets its contract: the class's bit, where it has one, is added to the row lent.
 use borrow.Author.Needs.{needs}
-use Rattle.sends.specs.Sent.{lock-one, lock-free}
+use Rattle.sends.specs.Granted.{lock-one, lock-free}
 use Rattle.sends.proofs.grant.lock_class.Statement.{statement}
 use Rattle.sends.proofs.grant.lock_class.Tie as tie
 

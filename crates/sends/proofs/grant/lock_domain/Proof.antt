@@ -5,7 +5,7 @@ use Prim.Native.Nat.{ℕ, _-_, _≤_}
 use native.Mathlib.Omega.{arith}
 use Rattle.locks.specs.Asked.{asked}
 use Rattle.state.specs.Calls.{tablesOf, rowOf, withRow}
-use Rattle.sends.specs.Sent.{lockedBelow, lock-none, lock-more, below-within, below-same}
+use Rattle.sends.specs.Granted.{lockedBelow, lock-none, lock-more, below-within, below-same}
 use Rattle.sends.proofs.grant.lock_domain.Statement.{statement}
 use Rattle.sends.proofs.grant.lock_domain.Tie as tie
 

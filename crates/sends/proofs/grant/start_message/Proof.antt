@@ -1,14 +1,13 @@
 -- `start_message` meets its contract: the message enters the row lent.
 use borrow.Author.Needs.{needs}
-use Rattle.sends.specs.Sent.{begun-lent}
+use Rattle.sends.specs.Granted.{entered-lent}
 use Rattle.sends.proofs.grant.start_message.Statement.{statement}
 use Rattle.sends.proofs.grant.start_message.Tie as tie
 
 returns : tie.Need-returns
 returns c =
     let l = c .before .before in
-    let f = l .before .before in
-    begun-lent _ _ _ (f .before .before .before .before .before .pre) _ _ (f .first-object .ensures) (l .enter .last .0) (search needs) (l .enter .ensures)
+    entered-lent _ _ (l .before .before .before .pre) _ _ (l .enter .last .0) (search needs) (l .enter .ensures)
 
 pub start-message-spec : {M : Type 1} → statement M
 start-message-spec =
@@ -17,10 +16,6 @@ start-message-spec =
     (λ c. search needs)
     (λ c. search needs)
     (λ c. search needs)
-    (λ c. search needs)
-    (λ c. search needs)
-    (λ c. search needs)
-    (λ c κs. search needs)
     (λ c. search needs)
     (λ c. search needs)
     (λ c. search needs)

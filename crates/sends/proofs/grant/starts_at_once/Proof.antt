@@ -1,7 +1,7 @@
 -- `starts_at_once` meets its contract: no slot holds a conflict, and then the class has the name at its place.
 use borrow.Author.Needs.{needs}
 use Rattle.locks.specs.Asked.{asked}
-use Rattle.sends.specs.Sent.{held-there, free-there}
+use Rattle.sends.specs.Holders.{held-there, free-there}
 use Rattle.sends.proofs.grant.starts_at_once.Statement.{statement}
 use Rattle.sends.proofs.grant.starts_at_once.Tie as tie
 

@@ -1,7 +1,8 @@
 -- `take_object` meets its contract: the locks and then the message enter the row lent.
 use borrow.Author.Needs.{needs}
-use mathlib.Core.Path.{refl, sym}
-use Rattle.sends.specs.Sent.{first-there, at-once-named, taken-lent}
+use Rattle.sends.specs.Sent.{first-there}
+use Rattle.sends.specs.Holders.{at-once-named}
+use Rattle.sends.specs.Granted.{taken-lent}
 use Rattle.sends.proofs.grant.take_object.Statement.{statement}
 use Rattle.sends.proofs.grant.take_object.Tie as tie
 
@@ -13,8 +14,7 @@ returns c =
     let p = object .before .before .before in
     let b = p .before .before in
     let s = b .before .before .before .before in
-    let w = at-once-named _ _ (s .pre .2) in
-    λ text. taken-lent text _ _ (s .pre .0) _ (s .pre .1) _ (first-there text _ _ (s .pre .1) _ (sym w) refl _ _ (b .body-of .ensures text)) _ (p .place-bit .ensures) _ _ _
+    λ text. taken-lent text _ _ (s .pre .0) _ (s .pre .1) _ (first-there text _ _ (s .pre .1) (at-once-named _ _ (s .pre .2)) _ _ (b .body-of .ensures text)) _ (p .place-bit .ensures) _ _ _
     (object .add-lock .ensures) (class .add-lock2 .ensures) (search needs) (e .enter .ensures)
 
 pub take-object-spec : {M : Type 1} → statement M

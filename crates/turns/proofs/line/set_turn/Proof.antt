@@ -7,14 +7,21 @@ use Rattle.turns.proofs.line.set_turn.Tie as tie
 returns : tie.Need-returns
 returns c =
     let m = c .before .before in
-    set-there _ _ _ _ _ _ _ (m .before .find .ensures) (m .member-count .ensures) (c .before .if1 .taken)
+    set-there _ _ _ _ _ _ _ _ (m .before .find .ensures) (m .member-count .ensures) (c .before .if1 .taken)
 
 returns-2 : tie.Need-returns-2
 returns-2 c =
     let m = c .before in
-    set-none _ _ _ _ _ _ _ (m .before .find .ensures) (m .member-count .ensures) (c .if1 .left)
+    set-none _ _ _ _ _ _ _ _ (m .before .find .ensures) (m .member-count .ensures) (c .if1 .left)
 
 pub set-turn-spec : {M : Type 1} → statement M
 set-turn-spec =
     tie.close
-    (tie.spec (λ c κs. search needs) (λ c κs. search needs) (λ c. search needs) (λ c. search needs) (λ c. search needs) returns returns-2)
+    (tie.spec
+    (λ c κs. search needs)
+    (λ c κs. search needs)
+    (λ c. search needs)
+    (λ c. search needs)
+    (λ c. search needs)
+    returns
+    returns-2)

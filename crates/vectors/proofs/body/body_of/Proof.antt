@@ -1,22 +1,25 @@
--- `body_of` meets its contract: the name and the origin of the vertex, and the run that is written there.
+-- The body is found by the name of the vertex, and cut at the text's last statement; a method that is not there has none.
 use borrow.Author.Needs.{needs}
-use native.Mathlib.Omega.{arith}
-use Rattle.vectors.specs.Bodies.{body-found}
+use mathlib.Core.Path.{sym, _∙_}
+use Rattle.vectors.specs.Bodies.{body-found, body-missing}
 use Rattle.vectors.proofs.body.body_of.Statement.{statement}
 use Rattle.vectors.proofs.body.body_of.Tie as tie
 
 returns : tie.Need-returns
 returns c =
-    let l = c .before in
-    let s = l .before in
-    let b = s .before in
-    let o = b .before in
-    let n = o .before in
-    let w = n .before in
+    let b = c .before .before .before .before in
+    let w = b .before .before in
     let a = w .before .before .before .args in
-    body-found (a .text .now) (a .tables .now) (a .node) (w .member-word .result) _ (o .origin-of .result) (b .body-word .result) (c .least .result)
-    (w .member-word .ensures) (n .name-of .ensures) (o .origin-of .ensures) (b .body-word .ensures)
-    (omega (arith, c .least .ensures, l .left-of .ensures, s .statement-count .ensures))
+    body-found (a .text .now) (a .tables .now) (a .node) (w .member-word .result) _ (w .member-word .ensures) (b .before .name-of .ensures) _ _ _ _
+    (sym (c .before .before .found .given .1) ∙ b .body-in .ensures) (c .run-of .ensures)
+
+returns-2 : tie.Need-returns-2
+returns-2 c =
+    let b = c .before .before in
+    let w = b .before .before in
+    let a = w .before .before .before .args in
+    body-missing (a .text .now) (a .tables .now) (a .node) (w .member-word .result) _ (w .member-word .ensures) (b .before .name-of .ensures)
+    (sym (c .enum-told .given .1) ∙ b .body-in .ensures)
 
 pub body-of-spec : {M : Type 1} → statement M
 body-of-spec =
@@ -25,8 +28,8 @@ body-of-spec =
     (λ c κs. search needs)
     (λ c κs. search needs)
     (λ c κs. search needs)
+    (λ c. search needs)
     (λ c κs. search needs)
-    (λ c κs. search needs)
-    (λ c κs. search needs)
-    (λ c κs. search needs)
-    returns)
+    (λ c. search needs)
+    returns
+    returns-2)

@@ -1,8 +1,6 @@
 -- `put_vector` meets its contract: two stores at the masks' places.
 use borrow.Author.Needs.{needs}
-use Prim.Native.Nat.{ℕ}
-use mathlib.Core.Path.{ap₂, _∙_}
-use mathlib.Core.List.{List}
+use mathlib.Core.Path.{_∙_}
 use lib.ListN.{set}
 use Rattle.vectors.proofs.fill.put_vector.Statement.{statement}
 use Rattle.vectors.proofs.fill.put_vector.Tie as tie
@@ -12,16 +10,18 @@ returns c =
     let t = c .before .before in
     let q = t .before in
     let s = q .before .before .before .before in
-    let m = s .before in
-    let p = m .before in
-    let a = p .before .before .before .args in
-    let first = s .put .ensures ∙ ap₂ (λ (k v : ℕ). set (a .tables .now) k v) (p .mask-place .ensures) (m .read-mask .ensures) in
-    t .put2 .ensures ∙ ap₂ (λ (l : List ℕ) (k : ℕ). set l k (a .vector .writes)) first (q .mask-place2 .ensures)
+    let p = s .before in
+    let w = p .before .before in
+    let r = w .before in
+    let a = r .before .before .args in
+    let first = s .put .ensures ∙ (λ i. set (a .tables .now) (p .mask-place .ensures i) (r .mode-mask .ensures i)) in
+    t .put2 .ensures ∙ (λ i. set (first i) (q .mask-place2 .ensures i) (w .mode-mask2 .ensures i))
 
 pub put-vector-spec : {M : Type 1} → statement M
 put-vector-spec =
     tie.close
     (tie.spec
+    (λ c κs. search needs)
     (λ c κs. search needs)
     (λ c κs. search needs)
     (λ c κs. search needs)

@@ -1,0 +1,22 @@
+-- The answer is the entry's, told as a number and a detail.
+use Rattle.abi.specs.Laws.{writes-as}
+use borrow.Author.Needs.{needs}
+use Rattle.abi.proofs.cishmolaq_print_tables.Statement.{statement}
+use Rattle.abi.proofs.cishmolaq_print_tables.Tie as tie
+
+print-tables-requires : tie.Need-print-tables-requires
+print-tables-requires c κs = search needs
+
+tell-requires : tie.Need-tell-requires
+tell-requires c κs = search needs
+
+same-length : tie.Need-same-length
+same-length c = search needs
+
+returns : tie.Need-returns
+returns c =
+    let printed = c .before .before .before .before .print-tables .ensures in
+    writes-as (c .tell .ensures) (printed .says) (printed .bytes) (printed .kept)
+
+pub cishmolaq-print-tables-spec : {M : Type 1} → statement M
+cishmolaq-print-tables-spec = tie.close (tie.spec print-tables-requires tell-requires same-length returns)

@@ -1,0 +1,229 @@
+-- Demand 1 of the five calls, whatever is lent: what is altered where a number is given, what a number says, and what lies past the
+-- machine's words.
+use Prim.Native.Nat.{ℕ, zero, suc, _+_, _/_, _%_, _^_, _≤_, _<_}
+use lib.Bits.{bitOr}
+use native.Mathlib.Omega.{arith}
+use mathlib.Core.Path.{_≡_, refl, _∙_}
+use mathlib.Core.Bool.{Bool, true, false, not, cond, _&&_}
+use mathlib.Core.Option.{Option, none, some}
+use mathlib.Core.List.{List}
+use lib.ListN.{length, getD, drop, set, length-set}
+use lib.Dec.{eqb, leb, ltb, eqb·suc-zero}
+use borrow.Author.Tests.{leb-false, eqb-false, not-true}
+use Rattle.model.specs.Base.{least}
+use Rattle.model.specs.Service.{Answer, done, going, answer, refuse, held, stopped}
+use Rattle.model.specs.Machine.{Call, begin, send, step, commit, abort, Request, to, object, class, domain, stateWords}
+use Rattle.twophase.specs.Base.{least-some}
+use Rattle.theory.specs.ListLaws.{both-left, both-right}
+use Rattle.words.specs.View.{bit, objectWord, classCount, objectCount, memberCount}
+use Rattle.state.specs.Row as Row
+use Rattle.model.specs.Undo.{putBack}
+use Rattle.state.specs.Row.{Turn, noteAt, withAct, newAct, stepped, passed, notedRow, skipRow, callRow, replyRow, backRow, objectRow, freed, carried}
+use Rattle.state.specs.Turn.{decided}
+use Rattle.state.specs.Request.{Wanted, lacking, rowMeets, locked, First, on, past, nowhere, firstOf, entered}
+use Rattle.state.specs.Calls.{After, tablesOf, rowStart, rowOf, phaseOf, withRow, misfitOf, isStarted, refused, wanted, inTheWay, startedOr, grantedOr, sentTo, sentBy, laid, onClosed, onIdle, onRunning, slotIn, byPhase, called}
+use Rattle.refine.specs.State.{fit-is}
+use Rattle.refine.specs.Freeing.{freed-long}
+use Rattle.slots.specs.Lent.{Within, row-size, drop-sets, with-own}
+use Rattle.sends.specs.Granted.{locked-length, entered-length}
+
+-- With every number but 41, what was lent is as it was.
+abbrev pub Kept : Answer → List ℕ → List ℕ → List ℕ → List ℕ → Type 0
+Kept (refuse n) ws values ws′ values′ = (ws′ ≡ ws) × (values′ ≡ values)
+Kept (held t) ws values ws′ values′ = (ws′ ≡ ws) × (values′ ≡ values)
+Kept done ws values ws′ values′ = Unit {0}
+Kept going ws values ws′ values′ = Unit {0}
+Kept (answer v) ws values ws′ values′ = Unit {0}
+Kept stopped ws values ws′ values′ = Unit {0}
+
+-- 40 to slot s names another slot, which is open in the words.
+abbrev pub Holder : List ℕ → ℕ → Answer → Type 0
+Holder ws s (held t) = (t < 8) × (t ≡ s → ⊥) × (phaseOf (rowOf ws t) ≡ 0 → ⊥)
+Holder ws s (refuse n) = Unit {0}
+Holder ws s done = Unit {0}
+Holder ws s going = Unit {0}
+Holder ws s (answer v) = Unit {0}
+Holder ws s stopped = Unit {0}
+
+-- A refusal's number is one of 21 to 36.
+abbrev pub Numbered : Answer → Type 0
+Numbered (refuse n) = (21 ≤ n) × (n ≤ 36)
+Numbered (held t) = Unit {0}
+Numbered done = Unit {0}
+Numbered going = Unit {0}
+Numbered (answer v) = Unit {0}
+Numbered stopped = Unit {0}
+
+-- What a call of slot s answers and leaves, on these words and values.
+pub record Keeps (ws values : List ℕ) (s : ℕ) (x : After) : Type 0 where
+  pub kept : Kept (x .answered) ws values (x .words) (x .values)
+  pub past : drop stateWords (x .words) ≡ drop stateWords ws
+  pub holder : Holder ws s (x .answered)
+  pub number : Numbered (x .answered)
+
+-- ---- each turn keeps the row's length
+
+noted-length : (row : List ℕ) (k v : ℕ) → length (notedRow row k v) ≡ length row
+unfolding notedRow
+noted-length row k v = go (ltb k 2048) (bit (getD row (152 + k / 32) 0) (k % 32))
+  where
+    new : List ℕ
+    new = set (set (set row 9 1) (152 + k / 32) (bitOr (getD row (152 + k / 32) 0) (2 ^ (k % 32)))) (216 + k) v
+
+    go : (a b : Bool) → length (cond a (cond b row new) row) ≡ length row
+    go false b = refl
+    go true true = refl
+    go true false = simp length-set
+
+carried-length : (row values : List ℕ) (t : Turn) → length row ≡ 2264 → length (carried row values t .row) ≡ 2264
+unfolding carried skipRow callRow replyRow backRow objectRow newAct withAct stepped passed
+carried-length row values Row.misfit h = h
+carried-length row values Row.stop h = freed-long row h
+carried-length row values Row.skip h = simp length-set h
+carried-length row values (Row.assign k v) h = simp length-set (noted-length row k (getD values k 0) ∙ h)
+carried-length row values (Row.call first end a) h = simp length-set h
+carried-length row values (Row.reply v) h = simp length-set h
+carried-length row values (Row.back v) h = simp length-set h
+carried-length row values (Row.next o first end sum) h = simp length-set h
+carried-length row values (Row.answer v) h = simp length-set h
+
+-- ---- each call
+
+module _ (text ws values : List ℕ) (s : ℕ) where
+  abbrev Good : After → Type 0
+  Good = Keeps ws values s
+
+  refuses : (n : ℕ) → 21 ≤ n → n ≤ 36 → Good (refused ws values n)
+  refuses n g h = record { kept = (refl, refl); past = refl; holder = tt; number = (g, h) }
+
+  module _ (h : Within ws s) where
+    row-past : (row : List ℕ) → length row ≡ 2264 → drop stateWords (withRow ws s row) ≡ drop stateWords ws
+    row-past row size = drop-sets row ws (rowStart s) stateWords (omega (arith, h .slot))
+
+    own : length (rowOf ws s) ≡ 2264
+    own = row-size ws s h
+
+    -- ---- send
+
+    started-past : (q : Wanted) (f : First) → drop stateWords (withRow ws s (entered q f (locked text (tablesOf ws) q (rowOf ws s)))) ≡ drop stateWords ws
+    started-past q f =
+        let row = locked text (tablesOf ws) q (rowOf ws s) in
+        row-past (entered q f row) (entered-length q f row ∙ locked-length text (tablesOf ws) q (rowOf ws s) ∙ own)
+
+    starts : (q : Wanted) (f : First) → Good (startedOr text ws values s q f)
+    starts q (on o first end) = record { kept = tt; past = started-past q (on o first end); holder = tt; number = tt }
+    starts q (past o) = record { kept = tt; past = started-past q (past o); holder = tt; number = tt }
+    starts q nowhere = refuses 24 (omega arith) (omega arith)
+
+    -- A slot in the way is another one, and open.
+    in-the-way : (q : Wanted) (t : ℕ) → inTheWay text ws s q t ≡ true → (t ≡ s → ⊥) × (phaseOf (rowOf ws t) ≡ 0 → ⊥)
+    unfolding inTheWay
+    in-the-way q t e =
+        let a = not (eqb t s) in
+        let b = not (eqb (phaseOf (rowOf ws t)) 0) in
+        let two = both-left (a && b) (rowMeets text (tablesOf ws) q (rowOf ws t)) e in
+        (eqb-false t s (not-true (eqb t s) (both-left a b two)), eqb-false (phaseOf (rowOf ws t)) 0 (not-true (eqb (phaseOf (rowOf ws t)) 0) (both-right a b two)))
+
+    grants : (q : Wanted) (t : Option ℕ) → least (inTheWay text ws s q) 8 ≡ t → Good (grantedOr text ws values s q t)
+    grants q none e = starts q (firstOf text (tablesOf ws) q)
+    grants q (some t) e =
+        let found = least-some (inTheWay text ws s q) 8 t e in
+        let way = in-the-way q t (found .1) in
+        record { kept = (refl, refl); past = refl; holder = (found .0, way .0, way .1); number = tt }
+
+    sends-to : (kind n c k a : ℕ) → Good (sentTo text ws values s kind n c k a)
+    unfolding sentTo
+    sends-to kind n c k a = go (leb (classCount (tablesOf ws)) c) (leb (memberCount (tablesOf ws) c 1) k) (lacking text (tablesOf ws) q)
+      where
+        q : Wanted
+        q = wanted (tablesOf ws) kind n c k a
+
+        go : (x y z : Bool) → Good (cond x (refused ws values 24) (cond y (refused ws values 36) (cond z (refused ws values 24) (grantedOr text ws values s q (least (inTheWay text ws s q) 8)))))
+        go true y z = refuses 24 (omega arith) (omega arith)
+        go false true z = refuses 36 (omega arith) (omega arith)
+        go false false true = refuses 24 (omega arith) (omega arith)
+        go false false false = grants q (least (inTheWay text ws s q) 8) refl
+
+    sends-there : (b : Bool) (kind n c k a : ℕ) → Good (cond b (sentTo text ws values s kind n c k a) (refused ws values 36))
+    sends-there true kind n c k a = sends-to kind n c k a
+    sends-there false kind n c k a = refuses 36 (omega arith) (omega arith)
+
+    sends : (q : Request) → Good (sentBy text ws values s q)
+    sends (to (object o) k a) = sends-there (ltb o (objectCount (tablesOf ws))) 0 o (objectWord (tablesOf ws) o 1) k a
+    sends (to (class c) k a) = sends-there (ltb c (classCount (tablesOf ws))) 1 c c k a
+    sends (to (domain c) k a) = sends-there (ltb c (classCount (tablesOf ws))) 2 c c k a
+
+    -- ---- step, commit, abort
+
+    carried-past : (t : Turn) → drop stateWords (withRow ws s (carried (rowOf ws s) values t .row)) ≡ drop stateWords ws
+    carried-past t = row-past (carried (rowOf ws s) values t .row) (carried-length (rowOf ws s) values t own)
+
+    steps : (t : Turn) → Good (laid ws s (carried (rowOf ws s) values t))
+    unfolding carried
+    steps Row.misfit = record { kept = (with-own ws s h, refl); past = carried-past Row.misfit; holder = tt; number = (omega arith, omega arith) }
+    steps Row.stop = record { kept = tt; past = carried-past Row.stop; holder = tt; number = tt }
+    steps Row.skip = record { kept = tt; past = carried-past Row.skip; holder = tt; number = tt }
+    steps (Row.assign k v) = record { kept = tt; past = carried-past (Row.assign k v); holder = tt; number = tt }
+    steps (Row.call first end a) = record { kept = tt; past = carried-past (Row.call first end a); holder = tt; number = tt }
+    steps (Row.reply v) = record { kept = tt; past = carried-past (Row.reply v); holder = tt; number = tt }
+    steps (Row.back v) = record { kept = tt; past = carried-past (Row.back v); holder = tt; number = tt }
+    steps (Row.next o first end sum) = record { kept = tt; past = carried-past (Row.next o first end sum); holder = tt; number = tt }
+    steps (Row.answer v) = record { kept = tt; past = carried-past (Row.answer v); holder = tt; number = tt }
+
+    frees : (values′ : List ℕ) → Good (record { answered = done; words = withRow ws s (freed (rowOf ws s)); values = values′ })
+    frees values′ = record { kept = tt; past = row-past (freed (rowOf ws s)) (freed-long (rowOf ws s) own); holder = tt; number = tt }
+
+-- ---- by the phase of its slot
+
+module _ (text ws values : List ℕ) where
+  closed-keeps : (c : Call) → Within ws (slotIn c) → Keeps ws values (slotIn c) (onClosed ws values c)
+  closed-keeps (begin s) h = record { kept = tt; past = row-past text ws values s h (set (rowOf ws s) 0 1) (length-set (rowOf ws s) 0 1 ∙ row-size ws s h); holder = tt; number = tt }
+  closed-keeps (send s q) h = refuses text ws values s 32 (omega arith) (omega arith)
+  closed-keeps (step s) h = refuses text ws values s 32 (omega arith) (omega arith)
+  closed-keeps (commit s) h = refuses text ws values s 32 (omega arith) (omega arith)
+  closed-keeps (abort s) h = refuses text ws values s 32 (omega arith) (omega arith)
+
+  idle-keeps : (c : Call) → Within ws (slotIn c) → Keeps ws values (slotIn c) (onIdle text ws values c)
+  idle-keeps (begin s) h = refuses text ws values s 33 (omega arith) (omega arith)
+  idle-keeps (send s q) h = sends text ws values s h q
+  idle-keeps (step s) h = refuses text ws values s 35 (omega arith) (omega arith)
+  idle-keeps (commit s) h = frees text ws values s h values
+  idle-keeps (abort s) h = frees text ws values s h (putBack (noteAt (rowOf ws s)) values)
+
+  running-keeps : (c : Call) → Within ws (slotIn c) → Keeps ws values (slotIn c) (onRunning text ws values c)
+  running-keeps (begin s) h = refuses text ws values s 33 (omega arith) (omega arith)
+  running-keeps (send s q) h = refuses text ws values s 34 (omega arith) (omega arith)
+  running-keeps (step s) h = steps text ws values s h (decided text (tablesOf ws) (rowOf ws s) values)
+  running-keeps (commit s) h = refuses text ws values s 34 (omega arith) (omega arith)
+  running-keeps (abort s) h = frees text ws values s h (putBack (noteAt (rowOf ws s)) values)
+
+  phase-keeps : (c : Call) → Within ws (slotIn c) → (x y z : Bool)
+      → Keeps ws values (slotIn c) (cond x (onClosed ws values c) (cond y (onIdle text ws values c) (cond z (onRunning text ws values c) (refused ws values 24))))
+  phase-keeps c h true y z = closed-keeps c h
+  phase-keeps c h false true z = idle-keeps c h
+  phase-keeps c h false false true = running-keeps c h
+  phase-keeps c h false false false = refuses text ws values (slotIn c) 24 (omega arith) (omega arith)
+
+  misfit-keeps : (c : Call) (m : ℕ) → misfitOf text ws values ≡ suc m → Keeps ws values (slotIn c) (refused ws values (suc m))
+  unfolding misfitOf
+  misfit-keeps c m e = go (ltb (length ws) stateWords) (isStarted text ws values) e
+    where
+      go : (x y : Bool) → _≡_ {A = ℕ} (cond x 21 (cond y 0 24)) (suc m) → Keeps ws values (slotIn c) (refused ws values (suc m))
+      go true y q = refuses text ws values (slotIn c) (suc m) (omega arith) (omega arith)
+      go false true q = absurd (omega arith)
+      go false false q = refuses text ws values (slotIn c) (suc m) (omega arith) (omega arith)
+
+  -- Every call keeps this, whatever is lent.
+  pub every-call : (c : Call) → Keeps ws values (slotIn c) (called text ws values c)
+  unfolding called
+  every-call c = go (misfitOf text ws values) refl (leb 8 (slotIn c)) refl
+    where
+      phase : ℕ
+      phase = phaseOf (rowOf ws (slotIn c))
+
+      go : (m : ℕ) → misfitOf text ws values ≡ m → (b : Bool) → leb 8 (slotIn c) ≡ b
+          → Keeps ws values (slotIn c) (cond (not (eqb m 0)) (refused ws values m) (cond b (refused ws values 31) (byPhase text ws values c phase)))
+      go (suc m) e b q = rw (eqb·suc-zero m) (misfit-keeps c m e)
+      go zero e true q = refuses text ws values (slotIn c) 31 (omega arith) (omega arith)
+      go zero e false q =
+          phase-keeps c (record { slot = leb-false 8 (slotIn c) q; long = fit-is text ws values e .long }) (eqb phase 0) (eqb phase 1) (eqb phase 2)
