@@ -13,7 +13,7 @@
 #include <time.h>
 #include <unistd.h>
 
-/* Our modes stand behind the ones that Berkeley DB gives a meaning of its own. */
+/* Our modes come after the ones that Berkeley DB gives a meaning of its own. */
 enum { METHODS = 3, FIRST = DB_LOCK_WWRITE + 1, MODES = FIRST + 3 * METHODS, TIMES = 30000 };
 
 static const int commute[METHODS][METHODS] = {{0, 1, 0}, {1, 1, 1}, {0, 1, 0}};

@@ -100,7 +100,7 @@ uint32_t cishmolaq_print_tables(const uint8_t *text, size_t text_length, uint8_t
  */
 
 /* The length of a state in words of 32 bits, the same for every text; a longer one is good too, and its rest is left alone. */
-#define CISHMOLAQ_STATE_WORDS 26184
+#define CISHMOLAQ_STATE_WORDS 28961
 
 /* Whom a send names. */
 #define CISHMOLAQ_OBJECT 0 /* an object */

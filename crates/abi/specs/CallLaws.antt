@@ -1,4 +1,4 @@
--- From what the machine's entries ensure to what the C functions tell; and that no refusal is told as anything else.
+-- From what the machine's entries ensure to what the C functions return; and that no refusal is returned as anything else.
 use Prim.Native.Nat.{ℕ, _≤_}
 use native.Mathlib.Omega.{arith}
 use mathlib.Core.Path.{_≡_, refl, sym, ap, subst, _∙_}
@@ -10,11 +10,11 @@ use borrow.Author.Tests.{eq-eqb, ne-eqb, le-ltb}
 use Rattle.model.specs.Told.{Told}
 use Rattle.model.specs.Service.{callNumber, callDetail}
 use Rattle.model.specs.Machine.{Call, send, to, Target, object, class, domain, startAnswer}
-use Rattle.words.specs.View.{objectCount}
-use Rattle.state.specs.Calls.{tablesOf, refused, sentBy}
-use Rattle.slots.specs.declared.Outcome.{Outcome}
-use Rattle.slots.specs.declared.Outcome.the-variants.{Refused}
-use Rattle.slots.specs.Told.{told}
+use Rattle.catalog.specs.View.{objectCount}
+use Rattle.machine_words.specs.Calls.{tablesOf, refused, sentBy}
+use Rattle.machine_checks.specs.declared.Outcome.{Outcome}
+use Rattle.machine_checks.specs.declared.Outcome.the-variants.{Refused}
+use Rattle.machine_checks.specs.Told.{told}
 use Rattle.cishmolaq.specs.declared.Answer as Start
 use Rattle.cishmolaq.specs.Answers.{StartLeaves, Begins}
 use Rattle.cishmolaq.specs.Keeps.{Numbered}
@@ -23,14 +23,14 @@ use Rattle.abi.specs.Calls.{targetOf, Called}
 
 -- ---- start
 
--- What is left is what the answer told leaves.
+-- What is left is what the returned answer leaves.
 pub start-leaves : {text values ws : List ℕ} {r : Start.Answer} {after : List ℕ} → Begins text values ws r after
     → StartLeaves text values ws (startAnswer text (length values) (length ws)) after
 start-leaves {text} {values} {ws} {after = after} h = subst (λ (t : Told). StartLeaves text values ws t after) (h .says) (h .leaves)
 
 -- ---- a call
 
--- The outcome that an entry gave, told.
+-- The outcome of an entry, as it is returned.
 pub tells-call : {text ws values : List ℕ} {c : Call} {outcome : Outcome} {r detail : ℕ} {ws′ values′ : List ℕ} → Does text ws values c outcome ws′ values′
     → r ≡ callNumber (told outcome) → detail ≡ callDetail (told outcome) → Called text ws values c r detail ws′ values′
 tells-call {outcome = outcome} h n d = record { outcome = outcome; does = h; number = n; beside = d }
@@ -55,7 +55,7 @@ module _ (kind n : ℕ) where
   pub to-none : (kind ≡ 0 → ⊥) → (kind ≡ 1 → ⊥) → (kind ≡ 2 → ⊥) → object 64 ≡ targetOf kind n
   to-none a b d = rw (ne-eqb kind 0 a, ne-eqb kind 1 b, ne-eqb kind 2 d) refl
 
-  -- A send of any other kind is 36 where a send to an object is granted, held or 36, whatever is lent.
+  -- A send of any other kind answers 36 where a send to an object is granted, or answers 40 or 36, whatever is lent.
   pub another-kind : (text ws values : List ℕ) (s k a : ℕ) → 3 ≤ kind → sentBy text ws values s (to (targetOf kind n) k a) ≡ refused ws values 36
   another-kind text ws values s k a h =
       let few : objectCount (tablesOf ws) ≤ 64 = omega arith in
@@ -64,7 +64,7 @@ module _ (kind n : ℕ) where
 
 -- ---- numbers
 
--- A refusal's number is one of 21 to 36, so the number alone says what the call answered.
+-- A refusal's number is one of 21 to 36, so the number alone tells what the call answered.
 pub refused-apart : {text ws values : List ℕ} {c : Call} {r detail : ℕ} {ws′ values′ : List ℕ} (h : Called text ws values c r detail ws′ values′)
     → (n : ℕ) → h .outcome ≡ Refused n → (21 ≤ r) × (r ≤ 36)
 refused-apart h n e =

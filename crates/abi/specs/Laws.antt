@@ -1,4 +1,4 @@
--- From what the entries ensure to what the C functions tell; and that no refusal is told as 0.
+-- From what the entries ensure to what the C functions return; and that no refusal is returned as 0.
 use Prim.Native.Nat.{ℕ, zero, suc, _+_}
 use mathlib.Core.Path.{_≡_, refl, sym, ap, subst, _∙_}
 use mathlib.Core.Bool.{Bool, true, false, cond}
@@ -23,7 +23,7 @@ use Rattle.abi.specs.Numbers.{Tells, Writes}
 pub tells-as : {t u : Told} {r detail : ℕ} → Tells t r detail → t ≡ u → Tells u r detail
 tells-as {r = r} {detail = detail} h e = subst (λ (t : Told). Tells t r detail) e h
 
--- An entry's answer told, with what it left.
+-- An entry's answer as it is returned, with what it left.
 pub writes-as : {t u : Told} {before result after : List ℕ} {r detail : ℕ} → Tells t r detail → t ≡ u → after ≡ result → Kept t before after
     → Writes u before result r detail after
 writes-as {before = before} {after = after} h e holds kept = record { tells = tells-as h e; holds = holds; kept = subst (λ (t : Told). Kept t before after) e kept }
@@ -50,9 +50,9 @@ module _ {text : List ℕ} {verdict : Verdict} (h : Verdicts.Checks text verdict
   pub tells-refused : (number line : ℕ) → verdict ≡ Refused number line → r ≡ number → detail ≡ line → Tells (checkAnswer text) r detail
   tells-refused number line e = tells-verdict (refusal number line) (ap (λ (v : Verdict). toldOf (Verdicts.refusal v)) (sym e))
 
--- ---- no refusal is told as 0
+-- ---- no refusal is returned as 0
 
--- A reading that is refused with 0.
+-- Whether a reading is refused with 0.
 abbrev pub refusedWith0 : Reading → Bool
 refusedWith0 (accepted l) = false
 refusedWith0 (refused zero line) = true

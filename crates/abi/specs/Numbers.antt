@@ -7,12 +7,12 @@ use Rattle.model.specs.Told.{Told, numberOf, detailOf}
 use Rattle.model.specs.Image.{statementPlace}
 use Rattle.cishmolaq.specs.Answers.{Kept}
 
--- An answer as a number and a detail. No refusal is told as 0 (`Laws.never-0`).
+-- An answer as a number and a detail. No refusal is returned as 0 (`Laws.never-0`).
 pub record Tells (answer : Told) (r detail : ℕ) : Type 0 where
   pub number : r ≡ numberOf answer
   pub beside : detail ≡ detailOf answer
 
--- An answer, and what the memory lent then holds.
+-- An answer, and what the lent memory then holds.
 pub record Writes (answer : Told) (before result : List ℕ) (r detail : ℕ) (after : List ℕ) : Type 0 where
   pub tells : Tells answer r detail
   pub holds : after ≡ result

@@ -1,9 +1,9 @@
 // The entries of crate `cishmolaq` for C and Rust: `host/include/cishmolaq.h` says what each needs and answers.
 // An answer is a number, 0 where it is done; a length or a line goes through a lent place.
 use cishmolaq::Answer;
+use machine_checks::Outcome;
+use machine_locks::request::Target;
 use reader::Verdict;
-use sends::Target;
-use slots::Outcome;
 ghost use mathlib.Core.Path.{_≡_};
 ghost use lib.ListN.{length};
 ghost use Rattle.model.specs.Told.{checkAnswer};
@@ -11,13 +11,13 @@ ghost use Rattle.model.specs.Image.{compileAnswer, compiledInto, statementAnswe
 ghost use Rattle.model.specs.Tables.{printAnswer, printedInto};
 ghost use Rattle.model.specs.Service.{begin, send, step, commit, abort, callNumber, callDetail};
 ghost use Rattle.model.specs.Machine.{to, startAnswer};
-ghost use Rattle.slots.specs.Told.{told};
-ghost use Rattle.sends.specs.Aimed.{aimed};
+ghost use Rattle.machine_checks.specs.Told.{told};
+ghost use Rattle.machine_locks.specs.Aimed.{aimed};
 ghost use Rattle.cishmolaq.specs.Answers.{said, StartLeaves};
 ghost use Rattle.abi.specs.Numbers.{Tells, Writes, HandsBack};
 ghost use Rattle.abi.specs.Calls.{targetOf, Called};
 
-// A number to answer; what goes with it goes through the lent place.
+// Stores what goes with a number in the lent place, and returns the number.
 fn told(number: u32, with: usize, detail: &mut usize) -> u32
     ensures { λ r. ⌜ r ≡ number ⌝ }
     ensures { λ _. ⌜ now (detail .exit) ≡ with ⌝ }
@@ -26,7 +26,7 @@ fn told(number: u32, with: usize, detail: &mut usize) -> u32
     number
 }
 
-// The number of an answer; its length or line goes through the lent place.
+// Returns the number of an answer, and stores its length or line in the lent place.
 fn tell(answer: Answer, detail: &mut usize) -> u32
     ensures { λ r. ⌜ Tells (said answer) r (now (detail .exit)) ⌝ }
 {
@@ -68,7 +68,7 @@ pub extern "C" fn cishmolaq_statement(text: &[u8], count: u32, size: &mut usize)
     place.at
 }
 
-// The number that looking up a statement by its count gives, with its line.
+// The number for looking up a statement by its count, with its line.
 #[no_mangle]
 pub extern "C" fn cishmolaq_statement_fault(text: &[u8], count: u32, line: &mut usize) -> u32
     ensures { λ r. ⌜ Tells (statementAnswer (now (text .entry)) count) r (now (line .exit)) ⌝ }
@@ -117,7 +117,7 @@ pub extern "C" fn cishmolaq_start(
     tell(started, line)
 }
 
-// A number to answer to a call; what goes with it goes through the lent place.
+// Stores what goes with a call's number in the lent place, and returns the number.
 fn told_with(number: u32, with: u32, detail: &mut u32) -> u32
     ensures { λ r. ⌜ r ≡ number ⌝ }
     ensures { λ _. ⌜ now (detail .exit) ≡ with ⌝ }
@@ -126,7 +126,7 @@ fn told_with(number: u32, with: u32, detail: &mut u32) -> u32
     number
 }
 
-// The number of what a call answers; the message's answer or the slot goes through the lent place.
+// Returns the number of a call's outcome, and stores the message's answer or the slot in the lent place.
 fn tell_call(outcome: Outcome, detail: &mut u32) -> u32
     ensures { λ r. ⌜ r ≡ callNumber (told outcome) ⌝ }
     ensures { λ _. ⌜ now (detail .exit) ≡ callDetail (told outcome) ⌝ }
@@ -141,8 +141,8 @@ fn tell_call(outcome: Outcome, detail: &mut u32) -> u32
     }
 }
 
-// Whom a send names: an object (0), a class's own objects (1), a class's domain (2); any other kind an object that is never
-// there.
+// The target of a send: an object (0), a class's own objects (1), a class's domain (2); for any other kind an object that never
+// exists.
 fn target_of(kind: u32, number: u32) -> Target
     ensures { λ r. ⌜ aimed r ≡ targetOf kind number ⌝ }
 {
@@ -207,7 +207,7 @@ pub extern "C" fn cishmolaq_step(
     tell_call(stepped, detail)
 }
 
-// Frees the slot and leaves the values.
+// Frees the slot and keeps the values.
 #[no_mangle]
 pub extern "C" fn cishmolaq_commit(
     text: &[u8],

@@ -23,7 +23,7 @@ fn print_verdict(verdict: reader::Verdict) {
     io::write_all(STDOUT_FILENO, b"\n");
 }
 
-// Writes the first bytes of a part out.
+// Writes out the first bytes of a part.
 fn print_front(part: &[u8], size: usize) {
     if size <= part.len() {
         let start = 0;
@@ -31,7 +31,7 @@ fn print_front(part: &[u8], size: usize) {
     }
 }
 
-// Writes what a call has put into a part out; nothing where it was refused.
+// Writes out what a call has put into a part; nothing where it was refused.
 fn print_done(part: &[u8], answer: cishmolaq::Answer) {
     match answer {
         cishmolaq::Answer::Done(size) => print_front(part, size),
@@ -69,7 +69,7 @@ fn check_file(path: &[u8]) {
     print_image(&text[..size]);
 }
 
-// The text that one argument names.
+// Checks the text that one argument names.
 fn check_argument(i: usize) {
     let mut path = io::buffer();
     let size = os::arg(i, &mut path);

@@ -1,15 +1,16 @@
--- What the entries over a whole text answer, as the model tells it, and what they leave in the memory lent.
+-- What the entries over a whole text answer, in the model's terms, and what they leave in the lent memory.
 use Prim.Native.Nat.{ℕ, _+_, _≤_}
 use mathlib.Core.Path.{_≡_}
 use mathlib.Core.List.{List}
 use lib.ListN.{length, drop}
+use Rattle.layout.specs.Layout.{stateWords}
 use Rattle.model.specs.Read.{library}
 use Rattle.model.specs.Told.{Told, done, refusal, fitted, into}
 use Rattle.model.specs.Image.{compileAnswer, compiledInto, statementPlace, valuesAnswer, startingValuesInto}
 use Rattle.model.specs.Tables.{printAnswer, printedInto}
 use Rattle.model.specs.Vector.{program}
-use Rattle.model.specs.Machine.{stateWords, startAnswer}
-use Rattle.refine.specs.Rep.{Fresh}
+use Rattle.model.specs.Machine.{startAnswer}
+use Rattle.machine_refinement.specs.Rep.{Fresh}
 use Rattle.cishmolaq.specs.declared.Place.{Place}
 use Rattle.cishmolaq.specs.declared.Answer.{Answer}
 use Rattle.cishmolaq.specs.declared.Answer.the-variants.{Done, Refused}
@@ -19,7 +20,7 @@ abbrev pub said : Answer → Told
 said (Done n) = done n
 said (Refused number line) = refusal number line
 
--- With a number, what was lent is as it was.
+-- Where the answer is a number, what was lent is unchanged.
 abbrev pub Kept : Told → List ℕ → List ℕ → Type 0
 Kept (done n) before after = Unit {0}
 Kept (refusal number line) before after = after ≡ before
@@ -42,7 +43,7 @@ pub record Prints (text buffer : List ℕ) (r : Answer) (after : List ℕ) : Typ
   pub bytes : after ≡ printedInto text buffer
   pub kept : Kept (said r) buffer after
 
--- Where `statement_place` says that a statement stands, which is within the text.
+-- The place that `statement_place` answers, which is within the text.
 pub record Stands (text : List ℕ) (count : ℕ) (r : Place) : Type 0 where
   pub place : statementPlace text count ≡ (r .at, r .size)
   pub within : r .at + r .size ≤ length text
@@ -53,7 +54,7 @@ pub record Starts (text list : List ℕ) (r : Answer) (after : List ℕ) : Type 
   pub values : after ≡ startingValuesInto text list
   pub kept : Kept (said r) list after
 
--- What a start leaves: the words of a fresh start, and what lies past them as it was; with a number, all as it was.
+-- What a start leaves: the words of a fresh start, and what lies past them unchanged; where it gives a number, all unchanged.
 abbrev pub StartLeaves : List ℕ → List ℕ → List ℕ → Told → List ℕ → Type 0
 StartLeaves text values ws (done n) after = Fresh text after values (program (library text)) × (drop stateWords after ≡ drop stateWords ws)
 StartLeaves text values ws (refusal number line) after = after ≡ ws

@@ -1,5 +1,5 @@
--- Demand 1 of the five calls, whatever is lent: what is altered where a number is given, what a number says, and what lies past the
--- machine's words.
+-- Demand 1 of the five calls, whatever is lent: what is altered where a number is given, what a number means, and what lies past
+-- the machine's words.
 use Prim.Native.Nat.{ℕ, zero, suc, _+_, _/_, _%_, _^_, _≤_, _<_}
 use lib.Bits.{bitOr}
 use native.Mathlib.Omega.{arith}
@@ -10,24 +10,26 @@ use mathlib.Core.List.{List}
 use lib.ListN.{length, getD, drop, set, length-set}
 use lib.Dec.{eqb, leb, ltb, eqb·suc-zero}
 use borrow.Author.Tests.{leb-false, eqb-false, not-true}
+use Rattle.layout.specs.Layout.{valuesMost, phaseAt, changedAt, marksAt, notesAt, rowWords, stateWords}
 use Rattle.model.specs.Base.{least}
 use Rattle.model.specs.Service.{Answer, done, going, answer, refuse, held, stopped}
-use Rattle.model.specs.Machine.{Call, begin, send, step, commit, abort, Request, to, object, class, domain, stateWords}
-use Rattle.twophase.specs.Base.{least-some}
-use Rattle.theory.specs.ListLaws.{both-left, both-right}
-use Rattle.words.specs.View.{bit, objectWord, classCount, objectCount, memberCount}
-use Rattle.state.specs.Row as Row
+use Rattle.model.specs.Machine.{Call, begin, send, step, commit, abort, Request, to, object, class, domain}
+use Rattle.laws.specs.Basics.{least-some}
+use Rattle.laws.specs.Lists.{both-left, both-right}
+use Rattle.laws.specs.Bits.{bit}
+use Rattle.catalog.specs.View.{objectWord, classCount, objectCount, memberCount}
+use Rattle.machine_words.specs.Row as Row
 use Rattle.model.specs.Undo.{putBack}
-use Rattle.state.specs.Row.{Turn, noteAt, withAct, newAct, stepped, passed, notedRow, skipRow, callRow, replyRow, backRow, objectRow, freed, carried}
-use Rattle.state.specs.Turn.{decided}
-use Rattle.state.specs.Request.{Wanted, lacking, rowMeets, locked, First, on, past, nowhere, firstOf, entered}
-use Rattle.state.specs.Calls.{After, tablesOf, rowStart, rowOf, phaseOf, withRow, misfitOf, isStarted, refused, wanted, inTheWay, startedOr, grantedOr, sentTo, sentBy, laid, onClosed, onIdle, onRunning, slotIn, byPhase, called}
-use Rattle.refine.specs.State.{fit-is}
-use Rattle.refine.specs.Freeing.{freed-long}
-use Rattle.slots.specs.Lent.{Within, row-size, drop-sets, with-own}
-use Rattle.sends.specs.Granted.{locked-length, entered-length}
+use Rattle.machine_words.specs.Row.{Turn, noteAt, withAct, newAct, stepped, passed, notedRow, skipRow, callRow, replyRow, backRow, objectRow, freed, carried}
+use Rattle.machine_words.specs.Turn.{decided}
+use Rattle.machine_words.specs.Request.{Wanted, lacking, rowMeets, locked, First, on, past, nowhere, firstOf, entered}
+use Rattle.machine_words.specs.Calls.{After, tablesOf, rowStart, rowOf, phaseOf, withRow, misfitOf, isStarted, refused, wanted, inTheWay, startedOr, grantedOr, sentTo, sentBy, laid, onClosed, onIdle, onRunning, slotIn, byPhase, called}
+use Rattle.machine_words.specs.Rows.{fit-is}
+use Rattle.machine_refinement.specs.Freeing.{freed-long}
+use Rattle.machine_checks.specs.Lent.{Within, row-size, drop-sets, with-own}
+use Rattle.machine_locks.specs.Granted.{locked-length, entered-length}
 
--- With every number but 41, what was lent is as it was.
+-- With every number but 41, what was lent is unchanged.
 abbrev pub Kept : Answer → List ℕ → List ℕ → List ℕ → List ℕ → Type 0
 Kept (refuse n) ws values ws′ values′ = (ws′ ≡ ws) × (values′ ≡ values)
 Kept (held t) ws values ws′ values′ = (ws′ ≡ ws) × (values′ ≡ values)
@@ -36,7 +38,7 @@ Kept going ws values ws′ values′ = Unit {0}
 Kept (answer v) ws values ws′ values′ = Unit {0}
 Kept stopped ws values ws′ values′ = Unit {0}
 
--- 40 to slot s names another slot, which is open in the words.
+-- 40 for slot s names another slot, which is open in the words.
 abbrev pub Holder : List ℕ → ℕ → Answer → Type 0
 Holder ws s (held t) = (t < 8) × (t ≡ s → ⊥) × (phaseOf (rowOf ws t) ≡ 0 → ⊥)
 Holder ws s (refuse n) = Unit {0}
@@ -65,17 +67,17 @@ pub record Keeps (ws values : List ℕ) (s : ℕ) (x : After) : Type 0 where
 
 noted-length : (row : List ℕ) (k v : ℕ) → length (notedRow row k v) ≡ length row
 unfolding notedRow
-noted-length row k v = go (ltb k 2048) (bit (getD row (152 + k / 32) 0) (k % 32))
+noted-length row k v = go (ltb k valuesMost) (bit (getD row (marksAt + k / 32) 0) (k % 32))
   where
     new : List ℕ
-    new = set (set (set row 9 1) (152 + k / 32) (bitOr (getD row (152 + k / 32) 0) (2 ^ (k % 32)))) (216 + k) v
+    new = set (set (set row changedAt 1) (marksAt + k / 32) (bitOr (getD row (marksAt + k / 32) 0) (2 ^ (k % 32)))) (notesAt + k) v
 
     go : (a b : Bool) → length (cond a (cond b row new) row) ≡ length row
     go false b = refl
     go true true = refl
     go true false = simp length-set
 
-carried-length : (row values : List ℕ) (t : Turn) → length row ≡ 2264 → length (carried row values t .row) ≡ 2264
+carried-length : (row values : List ℕ) (t : Turn) → length row ≡ rowWords → length (carried row values t .row) ≡ rowWords
 unfolding carried skipRow callRow replyRow backRow objectRow newAct withAct stepped passed
 carried-length row values Row.misfit h = h
 carried-length row values Row.stop h = freed-long row h
@@ -97,10 +99,10 @@ module _ (text ws values : List ℕ) (s : ℕ) where
   refuses n g h = record { kept = (refl, refl); past = refl; holder = tt; number = (g, h) }
 
   module _ (h : Within ws s) where
-    row-past : (row : List ℕ) → length row ≡ 2264 → drop stateWords (withRow ws s row) ≡ drop stateWords ws
+    row-past : (row : List ℕ) → length row ≡ rowWords → drop stateWords (withRow ws s row) ≡ drop stateWords ws
     row-past row size = drop-sets row ws (rowStart s) stateWords (omega (arith, h .slot))
 
-    own : length (rowOf ws s) ≡ 2264
+    own : length (rowOf ws s) ≡ rowWords
     own = row-size ws s h
 
     -- ---- send
@@ -177,7 +179,7 @@ module _ (text ws values : List ℕ) (s : ℕ) where
 
 module _ (text ws values : List ℕ) where
   closed-keeps : (c : Call) → Within ws (slotIn c) → Keeps ws values (slotIn c) (onClosed ws values c)
-  closed-keeps (begin s) h = record { kept = tt; past = row-past text ws values s h (set (rowOf ws s) 0 1) (length-set (rowOf ws s) 0 1 ∙ row-size ws s h); holder = tt; number = tt }
+  closed-keeps (begin s) h = record { kept = tt; past = row-past text ws values s h (set (rowOf ws s) phaseAt 1) (length-set (rowOf ws s) phaseAt 1 ∙ row-size ws s h); holder = tt; number = tt }
   closed-keeps (send s q) h = refuses text ws values s 32 (omega arith) (omega arith)
   closed-keeps (step s) h = refuses text ws values s 32 (omega arith) (omega arith)
   closed-keeps (commit s) h = refuses text ws values s 32 (omega arith) (omega arith)

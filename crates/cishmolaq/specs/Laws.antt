@@ -1,4 +1,4 @@
--- From what the reader, the vectors and the image's writer give to the entries' answers.
+-- From what the reader, the vector compiler and the image's writer ensure to the entries' answers.
 use Prim.Native.Nat.{ℕ, zero, suc, _+_, _/_, _%_, _≤_, _<_}
 use native.Mathlib.Omega.{arith}
 use mathlib.Core.Path.{_≡_, refl, sym, ap, subst, _∙_}
@@ -6,25 +6,25 @@ use mathlib.Core.List.{List, [], _∷_, _++_}
 use lib.ListN.{length, getD, take, drop, drop-of-length-le}
 use lib.Seq.{drop-cons, drop-nil}
 use borrow.Author.Tests.{lt-ltb, le-ltb, eq-eqb, ne-eqb}
+use Rattle.layout.specs.Layout.{statementsAt, tableWords}
 use Rattle.model.specs.Library.{Placed}
 use Rattle.model.specs.Read.{Reading, accepted, refused, read, libraryIn, library}
 use Rattle.model.specs.Base.{upto}
 use Rattle.model.specs.Told.{done, refusal, orFault, fitted, into}
 use Rattle.model.specs.Image.{image, imageIn, compileAnswer, compiledInto, statementAnswer, placeAndSize, placeIn, statementPlace, statementPart, startingValues, valuesAnswer, startingValuesInto}
 use Rattle.model.specs.Tables.{refusalPrinted, printedFor, printed, printAnswer, printedInto}
-use Rattle.twophase.specs.Base.{All}
+use Rattle.laws.specs.Basics.{All}
 use Rattle.theory.specs.Accepted.{Inside, library-within}
-use Rattle.words.specs.View.{statementWord, classCount, statementCount, memberCount, placedOf, libraryOf}
-use Rattle.words.specs.Upto.{getD-upto}
-use Rattle.words.specs.Look.{statement-count}
+use Rattle.catalog.specs.View.{statementWord, classCount, statementCount, memberCount, placedOf, libraryOf}
+use Rattle.laws.specs.Upto.{getD-upto}
+use Rattle.catalog.specs.Look.{statement-count}
 use Rattle.reader.specs.Verdicts.{Tells, ReadInto}
 use Rattle.reader.specs.declared.Verdict.{Verdict}
 use Rattle.reader.specs.declared.Verdict.the-variants as Verdicts
-use Rattle.vectors.specs.Filled.{Filled, same-classes, same-methods}
+use Rattle.vector_compiler.specs.Filled.{Filled, same-classes, same-methods}
 use Rattle.image.specs.Written.{imageFrom, startingFrom, tablesFrom}
-use Rattle.image.specs.Sizes.{valueCount}
-use Rattle.image.specs.Append.{Printed, over, over-fits, over-whole}
-use Rattle.image.specs.Sizes.{starting-length}
+use Rattle.image.specs.Sizes.{valueCount, starting-length}
+use Rattle.output.specs.Append.{Printed, over, over-fits, over-whole}
 use Rattle.image.specs.Starting.{starting-law}
 use Rattle.image.specs.Laws.{Masks, image-law, tables-law}
 use Rattle.cishmolaq.specs.declared.Answer.{Answer}
@@ -32,8 +32,8 @@ use Rattle.cishmolaq.specs.declared.Answer.the-variants.{Done, Refused}
 use Rattle.cishmolaq.specs.declared.Place.{Place}
 use Rattle.cishmolaq.specs.Answers.{Fits, Compiles, Prints, Stands, Starts}
 
--- Filled tables hold the masks of the library that they say.
-pub filled-masks : (text ws ws′ : List ℕ) → Filled text ws ws′ → length ws ≡ 8072 → Masks ws′ (libraryOf text ws)
+-- Filled tables hold the masks of the library that they represent.
+pub filled-masks : (text ws ws′ : List ℕ) → Filled text ws ws′ → length ws ≡ tableWords → Masks ws′ (libraryOf text ws)
 filled-masks text ws ws′ f size = record {
   read = λ c j h k. f .masks (omega arith) c j (known c h) (below c j h k) .read;
   write = λ c j h k. f .masks (omega arith) c j (known c h) (below c j h k) .write;
@@ -49,12 +49,12 @@ filled-masks text ws ws′ f size = record {
 -- ---- a run written into a buffer
 
 module _ (run buffer : List ℕ) where
-  -- A buffer that is too short: 21, and nothing written.
+  -- A buffer that is too short: 21, and nothing is written.
   pub fits-short : length buffer < length run → Fits run buffer (Refused 21 0) buffer
   unfolding into
   fits-short h = record { says = rw (lt-ltb (length buffer) (length run) h); bytes = rw (lt-ltb (length buffer) (length run) h); kept = refl }
 
-  -- The run written, and what lies past it as it was.
+  -- The run is written, and what lies past it is unchanged.
   pub fits-done : length run ≤ length buffer → (n : ℕ) → n ≡ length run → (after : List ℕ) → after ≡ over run buffer → Fits run buffer (Done n) after
   unfolding into
   fits-done h n e after w = record {
@@ -63,7 +63,7 @@ module _ (run buffer : List ℕ) where
     kept = tt;
   }
 
-  -- Printed into no bytes first, which writes nothing and gives its length, then into the buffer where there is room.
+  -- The run is printed into no bytes first, which writes nothing and gives its length, then into the buffer where there is room.
   module _ (n : ℕ) (last : List ℕ) (p : Printed run [] n last) where
     nothing-written : last ++ buffer ≡ buffer
     nothing-written = ap (λ (l : List ℕ). l ++ buffer) (p .bytes ∙ drop-nil (length run))
@@ -84,12 +84,12 @@ module _ (text buffer : List ℕ) where
   unfolding image
   image-none number line e = ap imageIn e
 
-  -- A refused text: its fault, and nothing written.
+  -- A refused text: its fault, and nothing is written.
   pub compile-refused : (number line : ℕ) → read text ≡ refused number line → Compiles text buffer (Refused number line) buffer
   unfolding compileAnswer compiledInto into
   compile-refused number line e = record { says = rw e; bytes = rw (image-none number line e, le-ltb (length buffer) 0 (omega arith)); kept = refl }
 
-  module _ (ws ws′ : List ℕ) (size : length ws ≡ 8072) (f : Filled text ws ws′) (e : read text ≡ accepted (libraryOf text ws)) where
+  module _ (ws ws′ : List ℕ) (size : length ws ≡ tableWords) (f : Filled text ws ws′) (e : read text ≡ accepted (libraryOf text ws)) where
     image-is : image text ≡ imageFrom ws′
     unfolding image
     image-is = ap imageIn e ∙ sym (image-law text ws′ (libraryOf text ws) (f .library) (filled-masks text ws ws′ f size))
@@ -123,7 +123,7 @@ module _ (text : List ℕ) (count : ℕ) where
         (rw (e, drop-of-length-le (libraryOf text ws .statements) long), rw (e, le-ltb count (length (libraryOf text ws .statements)) long))
 
     -- The place and the size that the statement's word has.
-    pub statement-found : count < statementCount ws → (w : ℕ) → w ≡ getD ws (3976 + count) 0
+    pub statement-found : count < statementCount ws → (w : ℕ) → w ≡ getD ws (statementsAt + count) 0
         → (statementPlace text count ≡ (w / 65536, w % 65536)) × (done 0 ≡ statementAnswer text count)
     unfolding statementPlace statementAnswer placedOf statementWord
     statement-found h w q =
@@ -149,7 +149,7 @@ place-within text count = go (read text) (library-within text)
     go (accepted l) h = within (l .statements) h count
     go (refused number line) h = omega arith
 
--- Where a statement stands.
+-- The place of a statement.
 pub stands : (text : List ℕ) (count : ℕ) {r : Place} → statementPlace text count ≡ (r .at, r .size) → Stands text count r
 stands text count e = record { place = e; within = subst (λ (s : ℕ × ℕ). s .0 + s .1 ≤ length text) e (place-within text count) }
 
@@ -210,7 +210,7 @@ module _ (text : List ℕ) {buffer : List ℕ} {r : Answer} {after : List ℕ} w
   refusal-printed number line e = printed-fits (refusalPrinted number line) (rw e)
 
   -- .. an accepted one its lines.
-  pub tables-printed : (ws ws′ : List ℕ) → length ws ≡ 8072 → Filled text ws ws′ → read text ≡ accepted (libraryOf text ws) → Fits (tablesFrom text ws′) buffer r after
+  pub tables-printed : (ws ws′ : List ℕ) → length ws ≡ tableWords → Filled text ws ws′ → read text ≡ accepted (libraryOf text ws) → Fits (tablesFrom text ws′) buffer r after
       → Prints text buffer r after
   unfolding printed
   tables-printed ws ws′ size f e =

@@ -8,14 +8,14 @@ use Rattle.model.specs.Vector.{Program}
 use Rattle.model.specs.Message.{baseOf}
 use Rattle.model.specs.Service.{Answer, done, going, answer, refuse, held, stopped, World}
 use Rattle.model.specs.Machine.{Call, service}
-use Rattle.state.specs.Calls.{tablesOf, called}
-use Rattle.refine.specs.Rep.{Rep}
-use Rattle.refine.specs.Tables.{object-total}
-use Rattle.refine.specs.State.{fit-is}
-use Rattle.refine.specs.Course.{AfterAll, calledAll}
-use Rattle.slots.specs.declared.Outcome.{Outcome}
-use Rattle.slots.specs.declared.Outcome.the-variants as Say
-use Rattle.slots.specs.Told.{told}
+use Rattle.machine_words.specs.Calls.{tablesOf, called}
+use Rattle.machine_refinement.specs.Rep.{Rep}
+use Rattle.machine_refinement.specs.Tables.{object-total}
+use Rattle.machine_words.specs.Rows.{fit-is}
+use Rattle.machine_refinement.specs.Course.{AfterAll, calledAll}
+use Rattle.machine_checks.specs.declared.Outcome.{Outcome}
+use Rattle.machine_checks.specs.declared.Outcome.the-variants as Say
+use Rattle.machine_checks.specs.Told.{told}
 use Rattle.cishmolaq.specs.Promises.{Does}
 
 -- Calls made one after another, each on what the one before left, with their answers.
@@ -62,7 +62,7 @@ all-back : (rs : List Outcome) → map untold (map told rs) ≡ rs
 all-back [] = refl
 all-back (r ∷ rs) = ap₂ (λ (x : Outcome) (xs : List Outcome). x ∷ xs) (told-back r) (all-back rs)
 
--- Answers that say the same are the same.
+-- Answers with the same meaning are equal.
 pub told-same : (rs rs′ : List Outcome) → map told rs ≡ map told rs′ → rs ≡ rs′
 told-same rs rs′ e = sym (all-back rs) ∙ ap (map untold) e ∙ all-back rs′
 

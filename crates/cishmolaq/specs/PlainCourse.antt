@@ -7,26 +7,26 @@ use mathlib.Core.List.{List, map}
 use lib.ListN.{length}
 use lib.Dec.{eqb, ltb}
 use borrow.Author.Tests.{le-ltb}
+use Rattle.layout.specs.Layout.{stateWords}
 use Rattle.model.specs.Read.{Reading, accepted, refused, read, library}
 use Rattle.model.specs.Image.{startingValues}
 use Rattle.model.specs.Vector.{Program, program}
 use Rattle.model.specs.Service.{Answer, World, closed, fresh, runCalls}
-use Rattle.model.specs.Machine.{Call, service}
+use Rattle.model.specs.Machine.{Call, service, startAnswer}
 use Rattle.model.specs.Course.{course}
-use Rattle.twophase.specs.Base.{All}
+use Rattle.laws.specs.Basics.{All}
 use Rattle.twophase.specs.Claims.{Right}
 use Rattle.theory.specs.VectorLaws.{program-compiled}
-use Rattle.state.specs.Calls.{rowOf, phaseOf}
-use Rattle.refine.specs.Rep.{Rep, Fresh}
-use Rattle.refine.specs.State.{phase-closed, closed-phase}
-use Rattle.refine.specs.Refines.{fresh-rep}
-use Rattle.refine.specs.Course.{AfterAll, calledAll, all-refine, InOrder, in-order}
-use Rattle.slots.specs.declared.Outcome.{Outcome}
-use Rattle.slots.specs.Told.{told}
+use Rattle.machine_words.specs.Calls.{rowOf, phaseOf}
+use Rattle.machine_refinement.specs.Rep.{Rep, Fresh}
+use Rattle.machine_refinement.specs.State.{phase-closed, closed-phase}
+use Rattle.machine_refinement.specs.Refines.{fresh-rep}
+use Rattle.machine_refinement.specs.Course.{AfterAll, calledAll, all-refine, InOrder, in-order}
+use Rattle.machine_checks.specs.declared.Outcome.{Outcome}
+use Rattle.machine_checks.specs.Told.{told}
 use Rattle.cishmolaq.specs.declared.Answer as Start
 use Rattle.model.specs.Told as Entry
 use Rattle.model.specs.Told.{Told, refusal, orFault}
-use Rattle.model.specs.Machine.{stateWords, startAnswer}
 use Rattle.cishmolaq.specs.Answers.{said, StartLeaves, Begins}
 use Rattle.cishmolaq.specs.Made.{Made, made-is, told-same, rep-count}
 
@@ -40,7 +40,7 @@ programOf text = program (library text)
 start-fresh : (text values state : List ℕ) (r : Start.Answer) (ws : List ℕ) → Begins text values state r ws → said r ≡ Entry.done 0 → Fresh text ws values (programOf text)
 start-fresh text values state r ws h e = subst (λ (t : Told). StartLeaves text values state t ws) e (h .leaves) .0
 
--- What a start took, another takes: as many values, in any state that is long enough.
+-- Where one start succeeds, another does: on as many values, in any state that is long enough.
 start-again : (text : List ℕ) (count count′ size size′ : ℕ) → startAnswer text count size ≡ Entry.done 0 → count′ ≡ count → stateWords ≤ size′ → startAnswer text count′ size′ ≡ Entry.done 0
 unfolding startAnswer
 start-again text count count′ size size′ e q h = go (read text) e
@@ -71,7 +71,7 @@ module _ (text ws values : List ℕ) (p : Program) (w : World (service p)) (rep 
   pub all-closed : ((t : ℕ) → t < 8 → w .slots t ≡ closed) → NothingOpen ws
   all-closed shut t h = closed-phase text ws values p w rep t h (shut t h)
 
--- What demand 3 says of a list of calls after a start on `values`, by their answers and by what they left.
+-- What demand 3 requires of a list of calls after a start on `values`, by their answers and by what they left.
 pub record PlainCourse (text values : List ℕ) (cs : List Call) (rs : List Outcome) (ws′ values′ : List ℕ) : Type 0 where
   -- "ends with the fields .. of the plain course"
   pub same-fields : values′ ≡ course text values cs (map told rs) .fields
@@ -81,7 +81,7 @@ pub record PlainCourse (text values : List ℕ) (cs : List Call) (rs : List Outc
   pub as-new : (state : List ℕ) (r : Start.Answer) (new : List ℕ) → Begins text values′ state r new → said r ≡ Entry.done 0
       → (more : List Call) {rs₁ rs₂ : List Outcome} {ws₁ values₁ ws₂ values₂ : List ℕ}
       → Made text ws′ values′ more rs₁ ws₁ values₁ → Made text new values′ more rs₂ ws₂ values₂ → (rs₁ ≡ rs₂) × (values₁ ≡ values₂)
-  -- .. which a new start takes, in any state that is long enough.
+  -- .. which a new start accepts, in any state that is long enough.
   pub starts : (size : ℕ) → stateWords ≤ size → startAnswer text (length values′) size ≡ Entry.done 0
 
 -- "This is a single claim about the whole list, not one for each call."

@@ -3,26 +3,27 @@ use Prim.Native.Nat.{ℕ, _≤_}
 use mathlib.Core.Path.{_≡_, sym, ap, subst, _∙_}
 use mathlib.Core.List.{List}
 use lib.ListN.{drop}
+use Rattle.layout.specs.Layout.{stateWords}
 use Rattle.model.specs.Vector.{Program}
 use Rattle.model.specs.Service.{World, Answer, refuse}
-use Rattle.model.specs.Machine.{Call, call, service, stateWords}
-use Rattle.state.specs.Calls.{After, slotIn, called}
-use Rattle.refine.specs.Rep.{Rep}
-use Rattle.refine.specs.Refines.{refines}
-use Rattle.refine.specs.Refusals.{never-unfit}
-use Rattle.slots.specs.declared.Outcome.{Outcome}
-use Rattle.slots.specs.Told.{told, Leaves}
+use Rattle.model.specs.Machine.{Call, call, service}
+use Rattle.machine_words.specs.Calls.{After, slotIn, called}
+use Rattle.machine_refinement.specs.Rep.{Rep}
+use Rattle.machine_refinement.specs.Refines.{refines}
+use Rattle.machine_refinement.specs.Refusals.{never-unfit}
+use Rattle.machine_checks.specs.declared.Outcome.{Outcome}
+use Rattle.machine_checks.specs.Told.{told, Leaves}
 use Rattle.cishmolaq.specs.Keeps.{Kept, Holder, Numbered, Keeps, every-call}
 
 -- A call on a text, state words and values, with its answer and what it left.
 pub record Does (text ws values : List ℕ) (c : Call) (r : Outcome) (ws′ values′ : List ℕ) : Type 0 where
   -- Demand 1: "a call gives 24 or follows the rules below on what it finds", whatever is lent, as the definition says.
   pub any : Leaves (called text ws values c) r ws′ values′
-  -- With every number but 41 the words and the values are those lent.
+  -- With every number but 41 the words and the values are unchanged.
   pub kept : Kept (told r) ws values ws′ values′
-  -- What lies past the machine's words is as it was.
+  -- What lies past the machine's words is unchanged.
   pub past : drop stateWords ws′ ≡ drop stateWords ws
-  -- 40 names another slot, which is open in the words lent.
+  -- 40 names another slot, which is open in the lent words.
   pub holder : Holder ws (slotIn c) (told r)
   -- A refusal's number is one of 21 to 36.
   pub number : Numbered (told r)
@@ -33,7 +34,7 @@ pub record Does (text ws values : List ℕ) (c : Call) (r : Outcome) (ws′ valu
   -- .. and 21 and 24 are never given: "only where a call is lent something other than start and the machine's calls left".
   pub fits : (p : Program) (w : World (service p)) → Rep text ws values p w → (n : ℕ) → told r ≡ refuse n → 31 ≤ n
 
--- What keeps to the definition keeps all of it.
+-- What meets the definition keeps all of these promises.
 pub promised : (text ws values : List ℕ) (c : Call) (r : Outcome) (ws′ values′ : List ℕ) → Leaves (called text ws values c) r ws′ values′
     → Does text ws values c r ws′ values′
 promised text ws values c r ws′ values′ h = record {

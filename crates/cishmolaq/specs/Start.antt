@@ -1,19 +1,20 @@
--- From what filling and laying the tables give to the answer of `start`, and the state after it.
+-- From what filling and laying the tables ensure to the answer of `start`, and the state after it.
 use Prim.Native.Nat.{ℕ, _≤_, _<_}
 use mathlib.Core.Path.{_≡_, refl, sym, ap, subst, _∙_}
 use mathlib.Core.List.{List}
 use lib.ListN.{length, drop}
 use borrow.Author.Tests.{lt-ltb, le-ltb, eq-eqb, ne-eqb}
+use Rattle.layout.specs.Layout.{stateWords}
 use Rattle.model.specs.Library.{Library}
 use Rattle.model.specs.Read.{accepted, refused, read, libraryIn, library}
 use Rattle.model.specs.Image.{startingValues}
 use Rattle.model.specs.Vector.{program}
-use Rattle.words.specs.View.{libraryOf}
+use Rattle.catalog.specs.View.{libraryOf}
 use Rattle.image.specs.Sizes.{valueCount}
-use Rattle.model.specs.Machine.{stateWords, startAnswer}
-use Rattle.refine.specs.Rep.{Fresh}
-use Rattle.starting.specs.Started.{Fill}
-use Rattle.starting.specs.Installed.{installed, rest-there, fresh-start}
+use Rattle.model.specs.Machine.{startAnswer}
+use Rattle.machine_refinement.specs.Rep.{Fresh}
+use Rattle.machine_start.specs.Started.{Fill}
+use Rattle.machine_start.specs.Installed.{installed, rest-there, fresh-start}
 use Rattle.cishmolaq.specs.declared.Answer.the-variants.{Done, Refused}
 use Rattle.cishmolaq.specs.Answers.{Begins}
 use Rattle.cishmolaq.specs.Laws.{count-is}
@@ -29,7 +30,7 @@ module _ (text values ws : List ℕ) where
     unfolding library
     library-is = sym (ap libraryIn e)
 
-    -- How many values the text has.
+    -- The number of the text's values.
     abbrev many : ℕ
     many = length (startingValues (libraryOf text tables))
 
@@ -39,14 +40,14 @@ module _ (text values ws : List ℕ) where
     start-short h = record { says = rw (e, lt-ltb (length ws) stateWords h); leaves = refl }
 
     module _ (long : stateWords ≤ length ws) where
-      -- A list of another count: 22, and nothing altered.
+      -- A list with another number of values: 22, and nothing altered.
       pub start-other : (length values ≡ valueCount tables → ⊥) → Begins text values ws (Refused 22 0) ws
       unfolding startAnswer
       start-other h =
           let other : length values ≡ many → ⊥ = λ q. h (q ∙ sym (count-is text values tables e)) in
           record { says = rw (e, le-ltb (length ws) stateWords long, ne-eqb (length values) many other); leaves = refl }
 
-      -- A fresh start in the state's words, and what lies past them as it was.
+      -- A fresh start in the state's words, and what lies past them unchanged.
       pub start-done : length values ≡ valueCount tables → (filled after : List ℕ) → Fill text tables filled
           → after ≡ installed filled (drop stateWords ws) → Begins text values ws (Done 0) after
       unfolding startAnswer

@@ -1,21 +1,22 @@
 // The public entries. Those over a text (its verdict, its image, its statements, its starting values, the lines that `tables`
 // prints, a start on it) read the text anew into tables of their own. The calls of the machine work on the lent state. Each is
 // total, and writes to what is lent only where it gives no number, or 41.
+use machine_checks::Outcome;
+use machine_locks::request::Target;
 use reader::Verdict;
-use sends::Target;
-use slots::Outcome;
 ghost use Prim.Native.Nat.{ℕ};
 ghost use mathlib.Core.Path.{_≡_};
 ghost use mathlib.Core.List.{List};
 ghost use lib.ListN.{length};
+ghost use Rattle.layout.specs.Layout.{tableWords};
 ghost use Rattle.model.specs.Read.{accepted, read};
 ghost use Rattle.model.specs.Image.{statementAnswer, statementPlace, statementPart};
 ghost use Rattle.model.specs.Tables.{refusalPrinted};
 ghost use Rattle.model.specs.Service.{begin, send, step, commit, abort};
 ghost use Rattle.model.specs.Machine.{to};
-ghost use Rattle.words.specs.View.{libraryOf};
+ghost use Rattle.catalog.specs.View.{libraryOf};
 ghost use Rattle.reader.specs.Verdicts.{Checks};
-ghost use Rattle.sends.specs.Aimed.{aimed};
+ghost use Rattle.machine_locks.specs.Aimed.{aimed};
 ghost use Rattle.cishmolaq.specs.Promises.{Does};
 ghost use Rattle.cishmolaq.specs.Answers.{said, Fits, Compiles, Prints, Stands, Starts, Begins};
 
@@ -29,17 +30,17 @@ pub enum Answer {
 pub fn check(text: &[u8]) -> Verdict
     ensures { λ r. ⌜ Checks (now (text .entry)) r ⌝ }
 {
-    let mut tables = [0u32; 8072];
+    let mut tables = [0u32; layout::TABLE_WORDS];
     reader::read_text(text, &mut tables)
 }
 
 // Writes the image of an accepted text, whose library is in `tables`.
 fn write_image(text: &[u8], tables: &mut [u32], image: &mut [u8]) -> Answer
-    requires { ⌜ length (now tables) ≡ 8072 ⌝ }
+    requires { ⌜ length (now tables) ≡ tableWords ⌝ }
     ensures { λ r. ⌜ (read (now (text .entry)) ≡ accepted (libraryOf (now (text .entry)) (now (tables .entry)))
         → Compiles (now (text .entry)) (now (image .entry)) r (now (image .exit))) ⌝ }
 {
-    vectors::fill::fill_vectors(text, tables);
+    vector_compiler::fill::fill_vectors(text, tables);
     let size = image::image_size(tables);
     if image.len() < size {
         return Answer::Refused(21, 0);
@@ -52,7 +53,7 @@ fn write_image(text: &[u8], tables: &mut [u32], image: &mut [u8]) -> Answer
 pub fn compile(text: &[u8], image: &mut [u8]) -> Answer
     ensures { λ r. ⌜ Compiles (now (text .entry)) (now (image .entry)) r (now (image .exit)) ⌝ }
 {
-    let mut tables = [0u32; 8072];
+    let mut tables = [0u32; layout::TABLE_WORDS];
     let verdict = reader::read_text(text, &mut tables);
     match verdict {
         Verdict::Refused(number, line) => Answer::Refused(number, line),
@@ -60,7 +61,7 @@ pub fn compile(text: &[u8], image: &mut [u8]) -> Answer
     }
 }
 
-// Where a statement stands in the text, and its size in bytes; both 0 where there is none.
+// The place of a statement in the text, and its size in bytes; both 0 where there is none.
 pub struct Place {
     pub at: usize,
     pub size: usize,
@@ -70,8 +71,8 @@ pub struct Place {
 fn place_at(tables: &[u32], count: u32) -> Place
     ensures { λ r. ⌜ ((text : List ℕ) → read text ≡ accepted (libraryOf text (now (tables .entry))) → statementPlace text count ≡ (r .at, r .size)) ⌝ }
 {
-    if count < words::statement_count(tables) {
-        let word = words::get(tables, 3976 + count as usize);
+    if count < catalog::statement_count(tables) {
+        let word = memory::get(tables, layout::STATEMENTS_AT + count as usize);
         Place {
             at: (word / 65536) as usize,
             size: (word % 65536) as usize,
@@ -85,7 +86,7 @@ fn place_at(tables: &[u32], count: u32) -> Place
 pub fn statement_place(text: &[u8], count: u32) -> Place
     ensures { λ r. ⌜ Stands (now (text .entry)) count r ⌝ }
 {
-    let mut tables = [0u32; 8072];
+    let mut tables = [0u32; layout::TABLE_WORDS];
     let verdict = reader::read_text(text, &mut tables);
     match verdict {
         Verdict::Refused(_, _) => Place { at: 0, size: 0 },
@@ -98,19 +99,19 @@ pub fn statement(text: &[u8], count: u32) -> &[u8]
     ensures { λ r. ⌜ now r ≡ statementPart (now (text .entry)) count ⌝ }
 {
     let place = statement_place(text, count);
-    words::part(text, place.at, place.size)
+    catalog::part(text, place.at, place.size)
 }
 
-// The number that looking up a statement by its count gives: 23 from the number of statements on.
+// The number for looking up a statement by its count: 23 from the number of statements on.
 pub fn statement_fault(text: &[u8], count: u32) -> Answer
     ensures { λ r. ⌜ said r ≡ statementAnswer (now (text .entry)) count ⌝ }
 {
-    let mut tables = [0u32; 8072];
+    let mut tables = [0u32; layout::TABLE_WORDS];
     let verdict = reader::read_text(text, &mut tables);
     match verdict {
         Verdict::Refused(number, line) => Answer::Refused(number, line),
         Verdict::Accepted => {
-            if count < words::statement_count(&tables) {
+            if count < catalog::statement_count(&tables) {
                 Answer::Done(0)
             } else {
                 Answer::Refused(23, 0)
@@ -131,11 +132,11 @@ fn write_values(text: &[u8], tables: &[u32], values: &mut [u32]) -> Answer
     Answer::Done(0)
 }
 
-// Writes the text's starting values, object by object. 22 where the list has another count.
+// Writes the text's starting values, object by object. 22 where the list has another length.
 pub fn starting_values(text: &[u8], values: &mut [u32]) -> Answer
     ensures { λ r. ⌜ Starts (now (text .entry)) (now (values .entry)) r (now (values .exit)) ⌝ }
 {
-    let mut tables = [0u32; 8072];
+    let mut tables = [0u32; layout::TABLE_WORDS];
     let verdict = reader::read_text(text, &mut tables);
     match verdict {
         Verdict::Refused(number, line) => Answer::Refused(number, line),
@@ -145,11 +146,11 @@ pub fn starting_values(text: &[u8], values: &mut [u32]) -> Answer
 
 // Writes the lines of an accepted text, whose library is in `tables`. They are printed into no bytes first, to learn their length.
 fn write_lines(text: &[u8], tables: &mut [u32], out: &mut [u8]) -> Answer
-    requires { ⌜ length (now tables) ≡ 8072 ⌝ }
+    requires { ⌜ length (now tables) ≡ tableWords ⌝ }
     ensures { λ r. ⌜ (read (now (text .entry)) ≡ accepted (libraryOf (now (text .entry)) (now (tables .entry)))
         → Prints (now (text .entry)) (now (out .entry)) r (now (out .exit))) ⌝ }
 {
-    vectors::fill::fill_vectors(text, tables);
+    vector_compiler::fill::fill_vectors(text, tables);
     let length = image::write_tables(text, tables, &mut out[..0]);
     if out.len() < length {
         return Answer::Refused(21, 0);
@@ -162,11 +163,11 @@ fn write_lines(text: &[u8], tables: &mut [u32], out: &mut [u8]) -> Answer
 fn write_refusal(number: u32, line: u32, out: &mut [u8]) -> Answer
     ensures { λ r. ⌜ Fits (refusalPrinted number line) (now (out .entry)) r (now (out .exit)) ⌝ }
 {
-    let count = image::write_refusal(number, line, &mut out[..0]);
+    let count = output::write_refusal(number, line, &mut out[..0]);
     if out.len() < count {
         return Answer::Refused(21, 0);
     }
-    image::write_refusal(number, line, out);
+    output::write_refusal(number, line, out);
     Answer::Done(count)
 }
 
@@ -174,7 +175,7 @@ fn write_refusal(number: u32, line: u32, out: &mut [u8]) -> Answer
 pub fn print_tables(text: &[u8], out: &mut [u8]) -> Answer
     ensures { λ r. ⌜ Prints (now (text .entry)) (now (out .entry)) r (now (out .exit)) ⌝ }
 {
-    let mut tables = [0u32; 8072];
+    let mut tables = [0u32; layout::TABLE_WORDS];
     let verdict = reader::read_text(text, &mut tables);
     match verdict {
         Verdict::Refused(number, line) => write_refusal(number, line as u32, out),
@@ -184,28 +185,28 @@ pub fn print_tables(text: &[u8], out: &mut [u8]) -> Answer
 
 // Starts on an accepted text, whose library is in `tables`.
 fn start_on(text: &[u8], tables: &mut [u32], values: &[u32], state: &mut [u32]) -> Answer
-    requires { ⌜ length (now tables) ≡ 8072 ⌝ }
+    requires { ⌜ length (now tables) ≡ tableWords ⌝ }
     ensures { λ r. ⌜ (read (now (text .entry)) ≡ accepted (libraryOf (now (text .entry)) (now (tables .entry)))
         → Begins (now (text .entry)) (now (values .entry)) (now (state .entry)) r (now (state .exit))) ⌝ }
 {
     let count = image::value_count(tables);
-    if state.len() < 26184 {
+    if state.len() < layout::STATE_WORDS {
         Answer::Refused(21, 0)
     } else if values.len() != count {
         Answer::Refused(22, 0)
     } else {
-        starting::fill(text, tables);
-        starting::install(tables, state);
+        machine_start::fill(text, tables);
+        machine_start::install(tables, state);
         Answer::Done(0)
     }
 }
 
 // Starts the machine on a text and its values: the tables of the text and eight closed slots, in the lent state. 21 where
-// the state is shorter than 26,184 words, 22 where the list has another count.
+// the state is too short, 22 where the list of values has another length.
 pub fn start(text: &[u8], values: &[u32], state: &mut [u32]) -> Answer
     ensures { λ r. ⌜ Begins (now (text .entry)) (now (values .entry)) (now (state .entry)) r (now (state .exit)) ⌝ }
 {
-    let mut tables = [0u32; 8072];
+    let mut tables = [0u32; layout::TABLE_WORDS];
     let verdict = reader::read_text(text, &mut tables);
     match verdict {
         Verdict::Refused(number, line) => Answer::Refused(number, line),
@@ -217,7 +218,7 @@ pub fn start(text: &[u8], values: &[u32], state: &mut [u32]) -> Answer
 pub fn begin(text: &[u8], state: &mut [u32], values: &[u32], slot: u32) -> Outcome
     ensures { λ r. ⌜ Does (now (text .entry)) (now (state .entry)) (now (values .entry)) (begin slot) r (now (state .exit)) (now (values .entry)) ⌝ }
 {
-    slots::begin(text, state, values, slot)
+    machine_calls::begin(text, state, values, slot)
 }
 
 // Sends a message to a target: the method at a place of its class, with an argument. 40 with the lowest slot whose locks
@@ -233,26 +234,26 @@ pub fn send(
 ) -> Outcome
     ensures { λ r. ⌜ Does (now (text .entry)) (now (state .entry)) (now (values .entry)) (send slot (to (aimed target) place argument)) r (now (state .exit)) (now (values .entry)) ⌝ }
 {
-    sends::send(text, state, values, slot, target, place, argument)
+    machine_calls::send::send(text, state, values, slot, target, place, argument)
 }
 
 // Runs one statement of the slot's message, or ends a body. 41 where the message is stopped; that does the work of abort.
 pub fn step(text: &[u8], state: &mut [u32], values: &mut [u32], slot: u32) -> Outcome
     ensures { λ r. ⌜ Does (now (text .entry)) (now (state .entry)) (now (values .entry)) (step slot) r (now (state .exit)) (now (values .exit)) ⌝ }
 {
-    steps::step(text, state, values, slot)
+    machine_calls::step::step(text, state, values, slot)
 }
 
-// Frees the slot and leaves the values.
+// Frees the slot and keeps the values.
 pub fn commit(text: &[u8], state: &mut [u32], values: &[u32], slot: u32) -> Outcome
     ensures { λ r. ⌜ Does (now (text .entry)) (now (state .entry)) (now (values .entry)) (commit slot) r (now (state .exit)) (now (values .entry)) ⌝ }
 {
-    slots::commit(text, state, values, slot)
+    machine_calls::commit(text, state, values, slot)
 }
 
 // Puts back each value that the transaction set, and frees the slot.
 pub fn abort(text: &[u8], state: &mut [u32], values: &mut [u32], slot: u32) -> Outcome
     ensures { λ r. ⌜ Does (now (text .entry)) (now (state .entry)) (now (values .entry)) (abort slot) r (now (state .exit)) (now (values .exit)) ⌝ }
 {
-    slots::abort(text, state, values, slot)
+    machine_calls::abort(text, state, values, slot)
 }

@@ -1,39 +1,41 @@
--- What is written of one method, part by part, and how long it is at most.
+-- What is written of one method, part by part, and its greatest length.
 use Prim.Native.Nat.{ℕ, zero, suc, _+_, _*_, _/_, _%_, _≤_}
 use mathlib.Core.Path.{_≡_, refl, sym, ap, _∙_}
 use mathlib.Core.Bool.{Bool, true, false, cond}
 use mathlib.Core.List.{List, _++_, map, flatMap, append-assoc}
 use native.Mathlib.Omega.{arith}
 use lib.ListN.{length, drop, length-append, length-take, length-map}
+use Rattle.layout.specs.Layout.{classNameAt, methodNamesAt, readMasksAt, writeMasksAt, commutingAt}
 use Rattle.model.specs.Base.{bytes, upto}
 use Rattle.model.specs.Image.{u32Bytes}
 use Rattle.model.specs.Tables.{yesOrNo}
-use Rattle.words.specs.View.{nameOf, classWord, memberCount, bit}
-use Rattle.words.specs.Upto.{length-upto, upto-same}
+use Rattle.catalog.specs.View.{nameOf, classWord, memberCount}
+use Rattle.laws.specs.Bits.{bit}
+use Rattle.laws.specs.Upto.{length-upto, upto-same}
 use Rattle.image.specs.declared.method.Part.{Part}
 use Rattle.image.specs.declared.method.Part.the-variants.{Masks, Commuting, Line}
-use Rattle.image.specs.Written.{numbers, letterFrom, lettersFrom, lineFrom}
-use Rattle.image.specs.Each.{map-numbers, each-le}
+use Rattle.output.specs.Each.{numbers, map-numbers, each-le}
+use Rattle.image.specs.Written.{letterFrom, lettersFrom, lineFrom}
 
 -- The part of class c's method j.
 abbrev pub cellFrom : List ℕ → List ℕ → Part → ℕ → ℕ → List ℕ
-cellFrom text ws Masks c j = u32Bytes (classWord ws c (136 + j)) ++ u32Bytes (classWord ws c (168 + j))
-cellFrom text ws Commuting c j = u32Bytes (classWord ws c (200 + j))
+cellFrom text ws Masks c j = u32Bytes (classWord ws c (readMasksAt + j)) ++ u32Bytes (classWord ws c (writeMasksAt + j))
+cellFrom text ws Commuting c j = u32Bytes (classWord ws c (commutingAt + j))
 cellFrom text ws Line c j = lineFrom text ws c j
 
--- That of all methods of class c.
+-- The part of all methods of class c.
 abbrev pub methodsFrom : List ℕ → List ℕ → Part → ℕ → List ℕ
 methodsFrom text ws part c = flatMap (cellFrom text ws part c) (numbers (memberCount ws c 1))
 
--- The pieces of a line, each with the byte behind it: a name, the letters, and `y` or `n` for each method.
+-- The pieces of a line, each with the byte that follows it: a name, the letters, and `y` or `n` for each method.
 abbrev pub nameFrom : List ℕ → ℕ → List ℕ
 nameFrom text w = nameOf text w ++ bytes " "
 
 abbrev pub vectorFrom : List ℕ → ℕ → ℕ → List ℕ
-vectorFrom ws c j = lettersFrom (classWord ws c (136 + j)) (classWord ws c (168 + j)) (memberCount ws c 0) ++ bytes " "
+vectorFrom ws c j = lettersFrom (classWord ws c (readMasksAt + j)) (classWord ws c (writeMasksAt + j)) (memberCount ws c 0) ++ bytes " "
 
 abbrev pub flagsFrom : List ℕ → ℕ → ℕ → List ℕ
-flagsFrom ws c j = map (λ i. yesOrNo (bit (classWord ws c (200 + j)) i)) (numbers (memberCount ws c 1)) ++ bytes "\n"
+flagsFrom ws c j = map (λ i. yesOrNo (bit (classWord ws c (commutingAt + j)) i)) (numbers (memberCount ws c 1)) ++ bytes "\n"
 
 -- ---- marks
 
@@ -82,33 +84,33 @@ line-joined a b c d = simp append-assoc
 module _ (ws : List ℕ) (c j : ℕ) where
   pub vector-le : length (vectorFrom ws c j) ≤ 33
   vector-le =
-      let said = lettersFrom (classWord ws c (136 + j)) (classWord ws c (168 + j)) (memberCount ws c 0) in
-      omega (arith, length-append said (bytes " "), letters-le (classWord ws c (136 + j)) (classWord ws c (168 + j)) (memberCount ws c 0) (members-le ws c 0))
+      let said = lettersFrom (classWord ws c (readMasksAt + j)) (classWord ws c (writeMasksAt + j)) (memberCount ws c 0) in
+      omega (arith, length-append said (bytes " "), letters-le (classWord ws c (readMasksAt + j)) (classWord ws c (writeMasksAt + j)) (memberCount ws c 0) (members-le ws c 0))
 
   flags-le : length (flagsFrom ws c j) ≤ 33
   flags-le =
-      let flag : ℕ → ℕ = λ i. yesOrNo (bit (classWord ws c (200 + j)) i) in
+      let flag : ℕ → ℕ = λ i. yesOrNo (bit (classWord ws c (commutingAt + j)) i) in
       let n = memberCount ws c 1 in
       omega (arith, length-append (map flag (numbers n)) (bytes "\n"), length-map (numbers n) flag, length-upto (λ k. k) n, members-le ws c 1)
 
 module _ (text ws : List ℕ) (c j : ℕ) where
   -- A line in the four pieces that are written.
-  pub line-pieces : nameFrom text (classWord ws c 0) ++ (nameFrom text (classWord ws c (72 + j)) ++ (vectorFrom ws c j ++ flagsFrom ws c j)) ≡ lineFrom text ws c j
+  pub line-pieces : nameFrom text (classWord ws c classNameAt) ++ (nameFrom text (classWord ws c (methodNamesAt + j)) ++ (vectorFrom ws c j ++ flagsFrom ws c j)) ≡ lineFrom text ws c j
   unfolding lineFrom
   line-pieces =
-      line-joined (nameOf text (classWord ws c 0)) (nameOf text (classWord ws c (72 + j)))
-      (lettersFrom (classWord ws c (136 + j)) (classWord ws c (168 + j)) (memberCount ws c 0))
-      (map (λ i. yesOrNo (bit (classWord ws c (200 + j)) i)) (numbers (memberCount ws c 1)))
+      line-joined (nameOf text (classWord ws c classNameAt)) (nameOf text (classWord ws c (methodNamesAt + j)))
+      (lettersFrom (classWord ws c (readMasksAt + j)) (classWord ws c (writeMasksAt + j)) (memberCount ws c 0))
+      (map (λ i. yesOrNo (bit (classWord ws c (commutingAt + j)) i)) (numbers (memberCount ws c 1)))
 
   line-le : length (lineFrom text ws c j) ≤ 130
   line-le =
-      let a = nameFrom text (classWord ws c 0) in
-      let b = nameFrom text (classWord ws c (72 + j)) in
+      let a = nameFrom text (classWord ws c classNameAt) in
+      let b = nameFrom text (classWord ws c (methodNamesAt + j)) in
       let v = vectorFrom ws c j in
       let f = flagsFrom ws c j in
       let sum = length-append a (b ++ (v ++ f)) in
       let rest = length-append b (v ++ f) in
-      omega (arith, ap length line-pieces, length-append v f, named-le text (classWord ws c 0), named-le text (classWord ws c (72 + j)), vector-le ws c j, flags-le ws c j)
+      omega (arith, ap length line-pieces, length-append v f, named-le text (classWord ws c classNameAt), named-le text (classWord ws c (methodNamesAt + j)), vector-le ws c j, flags-le ws c j)
 
 module _ (text ws : List ℕ) where
   pub cell-le : (part : Part) (c j : ℕ) → length (cellFrom text ws part c j) ≤ 130

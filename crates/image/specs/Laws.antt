@@ -1,35 +1,37 @@
--- Where the words say a library and hold the masks of its vectors, what is written out of them is the library's image and
+-- Where the words represent a library and hold the masks of its vectors, what is written from them is the library's image and
 -- its printed lines.
 use Prim.Native.Nat.{ℕ, zero, suc, _+_, _*_, _<_}
 use mathlib.Core.Path.{_≡_, refl, sym, ap, ap₂, subst, _∙_}
 use mathlib.Core.List.{List, [], _∷_, _++_, map, flatMap, append-nil, append-assoc}
 use native.Mathlib.Omega.{arith}
 use lib.ListN.{length, getD, length-map}
+use Rattle.layout.specs.Layout.{classNameAt, namesAt, kindWords, methodNamesAt, readMasksAt, writeMasksAt, commutingAt}
 use Rattle.model.specs.Base.{bytes, upto}
 use Rattle.model.specs.Word.{Name}
-use Rattle.model.specs.Library.{Library, Member, Class, Placed, classAt, byFirstParent, fieldNames, methodNames}
+use Rattle.model.specs.Library.{Library, Member, Class, Placed, classAt, asRecorded, fieldNames, methodNames}
 use Rattle.model.specs.Vector.{Vector, program, vectorsOf, transitive, commute}
 use Rattle.model.specs.Image.{u32Bytes, readMask, writeMask, commuteMask, placesPart, masksPart, commutePart, withPairs, imageOf}
 use Rattle.model.specs.Tables.{letters, yesOrNo, methodPrinted, methodsPrinted, classPrinted, programPrinted}
-use Rattle.words.specs.View.{nameOf, classWord, classCount, statementCount, memberCount, memberAt, membersOf, classOf, placedOf, bit, libraryOf}
-use Rattle.words.specs.Upto.{length-upto, getD-upto}
-use Rattle.words.specs.Look.{class-count, class-at, member-count}
-use Rattle.image.specs.Written.{numbers, placesFrom, eachMethod, masksFrom, commuteFrom, imageFrom, lettersFrom, lineFrom, tablesFrom}
-use Rattle.image.specs.Each.{map-upto, each-upto, each-listed, each-suc, each-same, listed}
+use Rattle.catalog.specs.View.{nameOf, classWord, classCount, statementCount, memberCount, memberAt, membersOf, classOf, placedOf, libraryOf}
+use Rattle.laws.specs.Bits.{bit}
+use Rattle.laws.specs.Upto.{length-upto, getD-upto}
+use Rattle.catalog.specs.Look.{class-count, class-at, member-count}
+use Rattle.output.specs.Each.{numbers, map-upto, each-upto, each-listed, each-suc, each-same, listed}
+use Rattle.image.specs.Written.{placesFrom, eachMethod, masksFrom, commuteFrom, imageFrom, lettersFrom, lineFrom, tablesFrom}
 use Rattle.image.specs.Letters.{letters-are, flags-are}
 
 abbrev vectorsIn : Library → ℕ → List Vector
-vectorsIn l c = vectorsOf l (byFirstParent l) c
+vectorsIn l c = vectorsOf l (asRecorded l) c
 
 abbrev pub vectorIn : Library → ℕ → ℕ → Vector
 vectorIn l c j = getD (vectorsIn l c) j []
 
 -- The words of each method hold the masks of its vector.
 pub record Masks (ws : List ℕ) (l : Library) : Type 0 where
-  pub read : (c j : ℕ) → c < classCount ws → j < memberCount ws c 1 → classWord ws c (136 + j) ≡ readMask (vectorIn l c j)
-  pub write : (c j : ℕ) → c < classCount ws → j < memberCount ws c 1 → classWord ws c (168 + j) ≡ writeMask (vectorIn l c j)
+  pub read : (c j : ℕ) → c < classCount ws → j < memberCount ws c 1 → classWord ws c (readMasksAt + j) ≡ readMask (vectorIn l c j)
+  pub write : (c j : ℕ) → c < classCount ws → j < memberCount ws c 1 → classWord ws c (writeMasksAt + j) ≡ writeMask (vectorIn l c j)
   pub commuting : (c j : ℕ) → c < classCount ws → j < memberCount ws c 1
-      → classWord ws c (200 + j) ≡ commuteMask (vectorsOf l (byFirstParent l) c) (vectorIn l c j)
+      → classWord ws c (commutingAt + j) ≡ commuteMask (vectorsOf l (asRecorded l) c) (vectorIn l c j)
 
 -- ---- a program by counting
 
@@ -49,7 +51,7 @@ module _ (text ws : List ℕ) where
   unfolding placesFrom placesPart libraryOf placedOf
   places-are = sym (each-upto (λ (s : Placed). u32Bytes (s .at) ++ u32Bytes (s .size)) (placedOf text ws) (statementCount ws))
 
-  -- What is written of each vector of a class and method, by counting.
+  -- What is written of the vectors of each class, by counting.
   by-counting : (f : List Vector → List ℕ) → flatMap f (program l .vectors) ≡ flatMap (λ c. f (vectorsIn l c)) (numbers (classCount ws))
   by-counting f =
       ap (flatMap f) (program-vectors l)
@@ -63,13 +65,13 @@ module _ (text ws : List ℕ) where
         ap (λ (k : Class). map (λ (m : Member). m .name) (k .methods)) (class-at text ws c known)
         ∙ map-upto (λ (m : Member). m .name) (memberAt text ws c 1) (memberCount ws c 1)
 
-    vectors-are : vectorsIn l c ≡ upto (λ j. transitive l (byFirstParent l) c (memberAt text ws c 1 j .name)) (memberCount ws c 1)
+    vectors-are : vectorsIn l c ≡ upto (λ j. transitive l (asRecorded l) c (memberAt text ws c 1 j .name)) (memberCount ws c 1)
     vectors-are =
-        ap (map (transitive l (byFirstParent l) c)) methods-are
-        ∙ map-upto (transitive l (byFirstParent l) c) (λ j. memberAt text ws c 1 j .name) (memberCount ws c 1)
+        ap (map (transitive l (asRecorded l) c)) methods-are
+        ∙ map-upto (transitive l (asRecorded l) c) (λ j. memberAt text ws c 1 j .name) (memberCount ws c 1)
 
     vector-count : length (vectorsIn l c) ≡ memberCount ws c 1
-    vector-count = ap length vectors-are ∙ length-upto (λ j. transitive l (byFirstParent l) c (memberAt text ws c 1 j .name)) (memberCount ws c 1)
+    vector-count = ap length vectors-are ∙ length-upto (λ j. transitive l (asRecorded l) c (memberAt text ws c 1 j .name)) (memberCount ws c 1)
 
     each-vector : (f : Vector → List ℕ) → flatMap f (vectorsIn l c) ≡ flatMap (λ j. f (vectorIn l c j)) (numbers (memberCount ws c 1))
     each-vector f =
@@ -89,12 +91,12 @@ module _ (text ws : List ℕ) where
     masks-are : masksFrom ws ≡ masksPart (program l)
     unfolding masksFrom masksPart
     masks-are =
-        each-are (λ c j. u32Bytes (classWord ws c (136 + j)) ++ u32Bytes (classWord ws c (168 + j))) (λ vs v. u32Bytes (readMask v) ++ u32Bytes (writeMask v))
+        each-are (λ c j. u32Bytes (classWord ws c (readMasksAt + j)) ++ u32Bytes (classWord ws c (writeMasksAt + j))) (λ vs v. u32Bytes (readMask v) ++ u32Bytes (writeMask v))
         (λ c j h k i. u32Bytes (m .read c j h k i) ++ u32Bytes (m .write c j h k i))
 
     commuting-are : commuteFrom ws ≡ commutePart (program l)
     unfolding commuteFrom commutePart
-    commuting-are = each-are (λ c j. u32Bytes (classWord ws c (200 + j))) (λ vs v. u32Bytes (commuteMask vs v)) (λ c j h k i. u32Bytes (m .commuting c j h k i))
+    commuting-are = each-are (λ c j. u32Bytes (classWord ws c (commutingAt + j))) (λ vs v. u32Bytes (commuteMask vs v)) (λ c j h k i. u32Bytes (m .commuting c j h k i))
 
     image-are : imageFrom ws ≡ imageOf (program l)
     unfolding imageFrom imageOf
@@ -123,34 +125,34 @@ module _ (c : Name) (vs : List Vector) where
       ∙ ap₂ _++_ (printed-counting a b n) (append-nil (methodPrinted c vs (a n) (b n)))
       ∙ sym (each-suc (λ j. methodPrinted c vs (a j) (b j)) n)
 
-vector-length : (l : Library) (c : ℕ) (m : Name) → length (transitive l (byFirstParent l) c m) ≡ length (classAt l c .fields)
+vector-length : (l : Library) (c : ℕ) (m : Name) → length (transitive l (asRecorded l) c m) ≡ length (classAt l c .fields)
 unfolding transitive
 vector-length l c m = length-map (fieldNames l c) _ ∙ length-map (classAt l c .fields) (λ (f : Member). f .name)
 
 module _ (text ws : List ℕ) (m : Masks ws (libraryOf text ws)) (c : ℕ) (known : c < classCount ws) where
-  class-named : nameOf text (classWord ws c 0) ≡ classAt (l text ws) c .name
+  class-named : nameOf text (classWord ws c classNameAt) ≡ classAt (l text ws) c .name
   unfolding classOf
   class-named = sym (ap (λ (k : Class). k .name) (class-at text ws c known))
 
-  method-named : (j : ℕ) → nameOf text (classWord ws c (72 + j)) ≡ memberAt text ws c 1 j .name
+  method-named : (j : ℕ) → nameOf text (classWord ws c (methodNamesAt + j)) ≡ memberAt text ws c 1 j .name
   unfolding memberAt
-  method-named j = let e : 72 + j ≡ 8 + (1 * 64 + j) = omega arith in ap (λ (k : ℕ). nameOf text (classWord ws c k)) e
+  method-named j = let e : methodNamesAt + j ≡ namesAt + (1 * kindWords + j) = omega arith in ap (λ (k : ℕ). nameOf text (classWord ws c k)) e
 
   fields-long : (j : ℕ) → j < memberCount ws c 1 → memberCount ws c 0 ≡ length (vectorIn (l text ws) c j)
   unfolding classOf
   fields-long j h = sym
       (ap (λ (vs : List Vector). length (getD vs j [])) (vectors-are text ws c known)
-      ∙ ap length (getD-upto (λ j. transitive (l text ws) (byFirstParent (l text ws)) c (memberAt text ws c 1 j .name)) (memberCount ws c 1) j [] h)
+      ∙ ap length (getD-upto (λ j. transitive (l text ws) (asRecorded (l text ws)) c (memberAt text ws c 1 j .name)) (memberCount ws c 1) j [] h)
       ∙ vector-length (l text ws) c (memberAt text ws c 1 j .name)
       ∙ ap (λ (k : Class). length (k .fields)) (class-at text ws c known)
       ∙ member-count text ws c 0)
 
   method-letters : (j : ℕ) → j < memberCount ws c 1
-      → lettersFrom (classWord ws c (136 + j)) (classWord ws c (168 + j)) (memberCount ws c 0) ≡ letters (vectorIn (l text ws) c j)
+      → lettersFrom (classWord ws c (readMasksAt + j)) (classWord ws c (writeMasksAt + j)) (memberCount ws c 0) ≡ letters (vectorIn (l text ws) c j)
   method-letters j h = (λ i. lettersFrom (m .read c j known h i) (m .write c j known h i) (fields-long j h i)) ∙ letters-are (vectorIn (l text ws) c j)
 
   method-flags : (j : ℕ) → j < memberCount ws c 1
-      → map (λ i. yesOrNo (bit (classWord ws c (200 + j)) i)) (numbers (memberCount ws c 1))
+      → map (λ i. yesOrNo (bit (classWord ws c (commutingAt + j)) i)) (numbers (memberCount ws c 1))
       ≡ map (λ w. yesOrNo (commute (vectorIn (l text ws) c j) w)) (vectorsIn (l text ws) c)
   method-flags j h =
       (λ i. map (λ k. yesOrNo (bit (m .commuting c j known h i) k)) (numbers (sym (vector-count text ws c known) i)))

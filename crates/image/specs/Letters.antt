@@ -8,12 +8,11 @@ use Rattle.model.specs.Mode.{Mode, Null, Read, Write, changes}
 use Rattle.model.specs.Vector.{Vector, commute}
 use Rattle.model.specs.Image.{onlyRead, readMask, writeMask, commuteMask}
 use Rattle.model.specs.Tables.{letter, letters, yesOrNo}
-use Rattle.theory.specs.ListLaws.{map-at}
-use Rattle.words.specs.View.{bit}
-use Rattle.words.specs.Upto.{upto-same}
-use Rattle.words.specs.Bits.{bit-mask}
-use Rattle.image.specs.Written.{numbers, letterFrom, lettersFrom}
-use Rattle.image.specs.Each.{map-numbers, map-listed}
+use Rattle.laws.specs.Lists.{map-at}
+use Rattle.laws.specs.Bits.{bit, bit-mask}
+use Rattle.laws.specs.Upto.{upto-same}
+use Rattle.output.specs.Each.{numbers, map-numbers, map-listed}
+use Rattle.image.specs.Written.{letterFrom, lettersFrom}
 
 -- ---- letters
 

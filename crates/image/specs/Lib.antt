@@ -1,6 +1,4 @@
 pub mod Written
-pub mod Append
-pub mod Each
 pub mod Cells
 pub mod Sizes
 pub mod Values

@@ -1,4 +1,4 @@
--- How many methods there are, how long the image is, and how many values the objects have.
+-- The number of methods, the length of the image, and the number of the objects' values.
 use Prim.Native.Nat.{ℕ, _+_, _*_, _≤_}
 use mathlib.Core.Path.{_≡_, refl, _∙_}
 use mathlib.Core.Bool.{Bool, true, false, cond}
@@ -6,23 +6,24 @@ use mathlib.Core.List.{List, _++_, map, flatMap}
 use native.Mathlib.Omega.{arith}
 use lib.ListN.{length, replicate, length-append, length-take, length-replicate}
 use lib.Dec.{ltb}
+use Rattle.layout.specs.Layout.{readMasksAt, writeMasksAt, commutingAt, objectClassAt, objectLineAt}
 use Rattle.model.specs.Image.{u32Bytes}
-use Rattle.lex.specs.Piece.{wordsAfter}
-use Rattle.words.specs.View.{partOf, valueOf, classWord, objectWord, statementWord, classCount, statementCount, objectCount, memberCount}
-use Rattle.words.specs.Look.{shownCount}
-use Rattle.image.specs.Written.{numbers, placeBytes, placesFrom, eachMethod, masksFrom, commuteFrom, imageFrom, valuesFrom, startingFrom, tablesFrom}
-use Rattle.image.specs.Each.{total, total-le, total-same, total-times, total-all, length-each, each-le}
+use Rattle.text_lex.specs.Piece.{wordsAfter}
+use Rattle.catalog.specs.View.{partOf, valueOf, classWord, objectWord, statementWord, classCount, statementCount, objectCount, memberCount}
+use Rattle.catalog.specs.Look.{shownCount}
+use Rattle.output.specs.Each.{numbers, total, total-le, total-same, total-times, total-all, length-each, each-le}
+use Rattle.image.specs.Written.{placeBytes, placesFrom, eachMethod, masksFrom, commuteFrom, imageFrom, valuesFrom, startingFrom, tablesFrom}
 use Rattle.image.specs.declared.method.Part.the-variants.{Line}
 use Rattle.image.specs.Cells.{members-le, classes-le}
 
 abbrev pub methodCount : List ℕ → ℕ
 methodCount ws = total (λ c. memberCount ws c 1) (classCount ws)
 
--- As many as the fields of the objects' classes.
+-- The number of values: as many as the fields of the objects' classes.
 abbrev pub valueCount : List ℕ → ℕ
-valueCount ws = total (λ o. shownCount ws (objectWord ws o 1) 0) (objectCount ws)
+valueCount ws = total (λ o. shownCount ws (objectWord ws o objectClassAt) 0) (objectCount ws)
 
--- The three pairs of parts of these lengths.
+-- The three pairs for parts of these lengths.
 abbrev pub pairs : ℕ → ℕ → ℕ → List ℕ
 pairs a b c = u32Bytes 24 ++ u32Bytes a ++ u32Bytes (24 + a) ++ u32Bytes b ++ u32Bytes (24 + a + b) ++ u32Bytes c
 
@@ -35,8 +36,8 @@ module _ (ws : List ℕ) where
       go true = members-le ws c p
       go false = omega arith
 
-  pub values-le : (n : ℕ) → total (λ o. shownCount ws (objectWord ws o 1) 0) n ≤ n * 32
-  values-le n = total-le 32 (λ o. shownCount ws (objectWord ws o 1) 0) n (λ o. shown-le (objectWord ws o 1) 0)
+  pub values-le : (n : ℕ) → total (λ o. shownCount ws (objectWord ws o objectClassAt) 0) n ≤ n * 32
+  values-le n = total-le 32 (λ o. shownCount ws (objectWord ws o objectClassAt) 0) n (λ o. shown-le (objectWord ws o objectClassAt) 0)
 
   pub total-methods-le : (n : ℕ) → total (λ c. memberCount ws c 1) n ≤ n * 32
   total-methods-le n = total-le 32 (λ c. memberCount ws c 1) n (λ c. members-le ws c 1)
@@ -57,11 +58,11 @@ module _ (ws : List ℕ) where
 
   pub masks-length : length (masksFrom ws) ≡ 8 * methodCount ws
   unfolding masksFrom
-  masks-length = each-method-length 8 (λ c j. u32Bytes (classWord ws c (136 + j)) ++ u32Bytes (classWord ws c (168 + j))) (λ c j. refl)
+  masks-length = each-method-length 8 (λ c j. u32Bytes (classWord ws c (readMasksAt + j)) ++ u32Bytes (classWord ws c (writeMasksAt + j))) (λ c j. refl)
 
   pub commute-length : length (commuteFrom ws) ≡ 4 * methodCount ws
   unfolding commuteFrom
-  commute-length = each-method-length 4 (λ c j. u32Bytes (classWord ws c (200 + j))) (λ c j. refl)
+  commute-length = each-method-length 4 (λ c j. u32Bytes (classWord ws c (commutingAt + j))) (λ c j. refl)
 
   -- The pairs that the code writes are the image's.
   pub image-pairs : (statements methods : ℕ) → statements ≡ statementCount ws → methods ≡ methodCount ws
@@ -89,18 +90,18 @@ module _ (text ws : List ℕ) where
   unfolding tablesFrom eachMethod
   tables-le = omega (arith, classes-le text ws Line (classCount ws))
 
-  values-length : (o : ℕ) → length (valuesFrom text ws o) ≡ shownCount ws (objectWord ws o 1) 0
+  values-length : (o : ℕ) → length (valuesFrom text ws o) ≡ shownCount ws (objectWord ws o objectClassAt) 0
   unfolding valuesFrom
   values-length o =
-      let n = shownCount ws (objectWord ws o 1) 0 in
-      let said = map valueOf (wordsAfter (partOf text (objectWord ws o 3))) in
+      let n = shownCount ws (objectWord ws o objectClassAt) 0 in
+      let said = map valueOf (wordsAfter (partOf text (objectWord ws o objectLineAt))) in
       omega (arith, length-take n (said ++ replicate n 0), length-append said (replicate n 0), length-replicate {A = ℕ} n 0)
 
   pub starting-length : length (startingFrom text ws) ≡ valueCount ws
   unfolding startingFrom
   starting-length =
       length-each (valuesFrom text ws) (objectCount ws)
-      ∙ total-same (λ o. length (valuesFrom text ws o)) (λ o. shownCount ws (objectWord ws o 1) 0) (objectCount ws) values-length
+      ∙ total-same (λ o. length (valuesFrom text ws o)) (λ o. shownCount ws (objectWord ws o objectClassAt) 0) (objectCount ws) values-length
 
   pub starting-le : (n : ℕ) → length (flatMap (valuesFrom text ws) (numbers n)) ≤ n * 32
-  starting-le n = each-le 32 (valuesFrom text ws) n (λ o. omega (arith, values-length o, shown-le ws (objectWord ws o 1) 0))
+  starting-le n = each-le 32 (valuesFrom text ws) n (λ o. omega (arith, values-length o, shown-le ws (objectWord ws o objectClassAt) 0))

@@ -1,16 +1,17 @@
--- Where the words say a library, the values written out of them are its starting values.
+-- Where the words represent a library, the values written from them are its starting values.
 use Prim.Native.Nat.{ℕ}
 use mathlib.Core.Path.{_≡_, sym, ap, _∙_}
 use mathlib.Core.List.{List, _++_}
 use native.Mathlib.Omega.{arith}
 use lib.ListN.{length, take, replicate}
+use Rattle.layout.specs.Layout.{objectClassAt, objectLineAt}
 use Rattle.model.specs.Library.{Library, classAt}
 use Rattle.model.specs.Image.{valuesOf, startingValues}
-use Rattle.words.specs.View.{partOf, numbersIn, objectWord, objectCount, objectOf, memberAt, libraryOf}
-use Rattle.words.specs.Upto.{length-upto}
-use Rattle.words.specs.Look.{shownCount, shown-members}
+use Rattle.catalog.specs.View.{partOf, numbersIn, objectWord, objectCount, objectOf, memberAt, libraryOf}
+use Rattle.laws.specs.Upto.{length-upto}
+use Rattle.catalog.specs.Look.{shownCount, shown-members}
 use Rattle.image.specs.Written.{valuesFrom, startingFrom}
-use Rattle.image.specs.Each.{each-upto, each-same}
+use Rattle.output.specs.Each.{each-upto, each-same}
 
 module _ (text ws : List ℕ) where
   fields-shown : (k : ℕ) → shownCount ws k 0 ≡ length (classAt (libraryOf text ws) k .fields)
@@ -18,7 +19,7 @@ module _ (text ws : List ℕ) where
 
   values-are : (o : ℕ) → valuesFrom text ws o ≡ valuesOf (libraryOf text ws) (objectOf text ws o)
   unfolding valuesFrom objectOf
-  values-are o = ap (λ (n : ℕ). take n (numbersIn (partOf text (objectWord ws o 3)) ++ replicate n 0)) (fields-shown (objectWord ws o 1))
+  values-are o = ap (λ (n : ℕ). take n (numbersIn (partOf text (objectWord ws o objectLineAt)) ++ replicate n 0)) (fields-shown (objectWord ws o objectClassAt))
 
   starting-are : startingFrom text ws ≡ startingValues (libraryOf text ws)
   unfolding startingFrom startingValues libraryOf

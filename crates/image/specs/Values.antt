@@ -1,4 +1,4 @@
--- The values of an object by counting, and what a loop over its line's words knows.
+-- The values of an object by counting, and the invariant of a loop over the words of its line.
 use Prim.Native.Nat.{ℕ, zero, suc, _+_, _-_, _≤_, _<_}
 use mathlib.Core.Path.{_≡_, refl, sym, ap, _∙_}
 use mathlib.Core.Bool.{Bool, true, false, cond}
@@ -10,16 +10,17 @@ use lib.ListN.{length, getD, take, drop, replicate, length-append, length-take, 
 use lib.Seq.{getD-take, getD-append-add, ext-getD}
 use lib.Dec.{ltb}
 use borrow.Author.Tests.{ltb-true, ltb-false}
+use Rattle.layout.specs.Layout.{objectClassAt, objectLineAt}
 use Rattle.model.specs.Base.{upto}
 use Rattle.model.specs.Word.{isNumber, decimal}
-use Rattle.lex.specs.Number.{numberOf}
-use Rattle.lex.specs.Piece.{wordsAfter, first, others, endAfter, others-after}
-use Rattle.words.specs.View.{partOf, valueOf, objectWord}
-use Rattle.words.specs.Upto.{length-upto, getD-upto}
-use Rattle.words.specs.Look.{shownCount}
+use Rattle.text_lex.specs.Number.{numberOf}
+use Rattle.text_lex.specs.Piece.{wordsAfter, first, others, endAfter, others-after}
+use Rattle.catalog.specs.View.{partOf, valueOf, objectWord}
+use Rattle.laws.specs.Upto.{length-upto, getD-upto}
+use Rattle.catalog.specs.Look.{shownCount}
 use Rattle.image.specs.Written.{valuesFrom}
 
--- The value of a word, by the number that `lex` says of it.
+-- The value of a word, by the number that `text_lex` reads in it.
 abbrev pub orZero : Option ℕ → ℕ
 orZero nothing = 0
 orZero (some n) = n
@@ -49,7 +50,7 @@ module _ (f : List ℕ → ℕ) (none : f [] ≡ 0) (ps : List (List ℕ)) (n : 
           ∙ sym none
           ∙ ap f (sym (List·getD-eq-default ps [] l))
 
-  -- A word that is not there counts as empty.
+  -- A missing word counts as empty.
   counted : take n (map f ps ++ replicate n 0) ≡ upto (λ j. f (getD ps j [])) n
   counted =
       let long : length (take n (map f ps ++ replicate n 0)) ≡ n =
@@ -58,9 +59,9 @@ module _ (f : List ℕ → ℕ) (none : f [] ≡ 0) (ps : List (List ℕ)) (n : 
       (λ i h. let l : i < n = omega arith in getD-take n (map f ps ++ replicate n 0) i 0 l ∙ element i l ∙ sym (getD-upto (λ j. f (getD ps j [])) n i 0 l))
 
 pub values-counted : (text ws : List ℕ) (o : ℕ)
-    → upto (λ j. valueOf (getD (wordsAfter (partOf text (objectWord ws o 3))) j [])) (shownCount ws (objectWord ws o 1) 0) ≡ valuesFrom text ws o
+    → upto (λ j. valueOf (getD (wordsAfter (partOf text (objectWord ws o objectLineAt))) j [])) (shownCount ws (objectWord ws o objectClassAt) 0) ≡ valuesFrom text ws o
 unfolding valuesFrom
-values-counted text ws o = sym (counted valueOf refl (wordsAfter (partOf text (objectWord ws o 3))) (shownCount ws (objectWord ws o 1) 0))
+values-counted text ws o = sym (counted valueOf refl (wordsAfter (partOf text (objectWord ws o objectLineAt))) (shownCount ws (objectWord ws o objectClassAt) 0))
 
 -- ---- a walk over words
 

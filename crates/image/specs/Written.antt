@@ -1,22 +1,22 @@
--- What is written out of the tables' words: the image, the starting values and the lines that `tables` prints. Over the
--- words alone; Laws and Starting tie each to the model's definition where the words say a library and its vectors.
+-- What is written from the tables' words: the image, the starting values and the lines that `tables` prints. Stated over the
+-- words alone; Laws and Starting relate each to the model's definition where the words represent a library and its vectors.
 use Prim.Native.Nat.{ℕ, zero, suc, _+_, _/_, _%_}
 use mathlib.Core.Bool.{cond}
 use mathlib.Core.List.{List, _++_, map, flatMap}
 use lib.ListN.{take, replicate}
+use Rattle.layout.specs.Layout.{classNameAt, methodNamesAt, readMasksAt, writeMasksAt, commutingAt, objectClassAt, objectLineAt}
 use Rattle.model.specs.Base.{bytes, upto}
 use Rattle.model.specs.Image.{u32Bytes, withPairs}
 use Rattle.model.specs.Tables.{yesOrNo}
-use Rattle.lex.specs.Piece.{wordsAfter}
-use Rattle.words.specs.View.{nameOf, partOf, valueOf, classWord, statementWord, objectWord, classCount, statementCount, objectCount, memberCount, bit}
-use Rattle.words.specs.Look.{shownCount}
-
-abbrev pub numbers : ℕ → List ℕ
-numbers n = upto (λ k. k) n
+use Rattle.output.specs.Each.{numbers}
+use Rattle.text_lex.specs.Piece.{wordsAfter}
+use Rattle.catalog.specs.View.{nameOf, partOf, valueOf, classWord, statementWord, objectWord, classCount, statementCount, objectCount, memberCount}
+use Rattle.laws.specs.Bits.{bit}
+use Rattle.catalog.specs.Look.{shownCount}
 
 -- ---- the image
 
--- Statement s: its place in the text.
+-- Statement s: its place and length in the text.
 abbrev pub placeBytes : ℕ → List ℕ
 placeBytes w = u32Bytes (w / 65536) ++ u32Bytes (w % 65536)
 
@@ -24,18 +24,18 @@ unfoldable pub placesFrom : List ℕ → List ℕ
 unfolding flatMap upto statementWord
 placesFrom ws = flatMap (λ s. placeBytes (statementWord ws s)) (numbers (statementCount ws))
 
--- A word or two of each class and method, in order.
+-- What is written of each method of each class, in order.
 unfoldable pub eachMethod : List ℕ → (ℕ → ℕ → List ℕ) → List ℕ
 unfolding flatMap upto memberCount
 eachMethod ws f = flatMap (λ c. flatMap (f c) (numbers (memberCount ws c 1))) (numbers (classCount ws))
 
 unfoldable pub masksFrom : List ℕ → List ℕ
 unfolding eachMethod classWord
-masksFrom ws = eachMethod ws (λ c j. u32Bytes (classWord ws c (136 + j)) ++ u32Bytes (classWord ws c (168 + j)))
+masksFrom ws = eachMethod ws (λ c j. u32Bytes (classWord ws c (readMasksAt + j)) ++ u32Bytes (classWord ws c (writeMasksAt + j)))
 
 unfoldable pub commuteFrom : List ℕ → List ℕ
 unfolding eachMethod classWord
-commuteFrom ws = eachMethod ws (λ c j. u32Bytes (classWord ws c (200 + j)))
+commuteFrom ws = eachMethod ws (λ c j. u32Bytes (classWord ws c (commutingAt + j)))
 
 unfoldable pub imageFrom : List ℕ → List ℕ
 unfolding placesFrom masksFrom commuteFrom
@@ -43,12 +43,12 @@ imageFrom ws = withPairs (placesFrom ws) (masksFrom ws) (commuteFrom ws)
 
 -- ---- starting values
 
--- Object o's values, absent ones 0: as many as its class has fields, and an unknown class has none.
+-- Object o's values, absent ones 0: as many as its class has fields, and none for an unknown class.
 unfoldable pub valuesFrom : List ℕ → List ℕ → ℕ → List ℕ
 unfolding objectWord shownCount partOf valueOf
 valuesFrom text ws o =
-    let n = shownCount ws (objectWord ws o 1) 0 in
-    take n (map valueOf (wordsAfter (partOf text (objectWord ws o 3))) ++ replicate n 0)
+    let n = shownCount ws (objectWord ws o objectClassAt) 0 in
+    take n (map valueOf (wordsAfter (partOf text (objectWord ws o objectLineAt))) ++ replicate n 0)
 
 unfoldable pub startingFrom : List ℕ → List ℕ → List ℕ
 unfolding flatMap upto valuesFrom
@@ -70,9 +70,9 @@ lettersFrom read write (suc n) = map (letterFrom read write) (numbers (suc n))
 unfoldable pub lineFrom : List ℕ → List ℕ → ℕ → ℕ → List ℕ
 unfolding nameOf classWord memberCount letterFrom bit upto
 lineFrom text ws c j =
-    nameOf text (classWord ws c 0) ++ bytes " " ++ nameOf text (classWord ws c (72 + j)) ++ bytes " "
-    ++ lettersFrom (classWord ws c (136 + j)) (classWord ws c (168 + j)) (memberCount ws c 0) ++ bytes " "
-    ++ map (λ i. yesOrNo (bit (classWord ws c (200 + j)) i)) (numbers (memberCount ws c 1)) ++ bytes "\n"
+    nameOf text (classWord ws c classNameAt) ++ bytes " " ++ nameOf text (classWord ws c (methodNamesAt + j)) ++ bytes " "
+    ++ lettersFrom (classWord ws c (readMasksAt + j)) (classWord ws c (writeMasksAt + j)) (memberCount ws c 0) ++ bytes " "
+    ++ map (λ i. yesOrNo (bit (classWord ws c (commutingAt + j)) i)) (numbers (memberCount ws c 1)) ++ bytes "\n"
 
 unfoldable pub tablesFrom : List ℕ → List ℕ → List ℕ
 unfolding eachMethod lineFrom

@@ -1,16 +1,16 @@
-// What is written of each class and method, in order: its two masks, its commuting mask, or its line.
-use super::append::put_byte;
-use super::append::put_bytes;
-use super::append::put_pair;
-use super::append::put_u32;
+// Writes what the image or `tables` has of each method, in order: its two masks, its commuting mask, or its line.
+use output::put_byte;
+use output::put_bytes;
+use output::put_pair;
+use output::put_u32;
 ghost use Prim.Native.Nat.{_+_, _≤_, _<_, _^_};
 ghost use mathlib.Core.Path.{_≡_};
 ghost use Rattle.model.specs.Base.{upto};
 ghost use Rattle.image.specs.Written.{eachMethod, lettersFrom, lineFrom};
-ghost use Rattle.image.specs.Append.{Appended};
+ghost use Rattle.output.specs.Append.{Appended};
 ghost use Rattle.image.specs.Cells.{cellFrom, methodsFrom, nameFrom, vectorFrom, flagsFrom, markOf};
 
-// What of a method is written.
+// The part of a method that is written.
 pub enum Part {
     Masks,
     Commuting,
@@ -21,17 +21,17 @@ pub enum Part {
 fn mark(place: u32, first: u32, second: u32, high: u8, middle: u8, low: u8) -> u8
     ensures { λ r. ⌜ r ≡ markOf first second high middle low place ⌝ }
 {
-    if words::has_bit(first, place) {
+    if catalog::has_bit(first, place) {
         return high;
     }
-    if words::has_bit(second, place) {
+    if catalog::has_bit(second, place) {
         middle
     } else {
         low
     }
 }
 
-// Such a byte for each place below a count.
+// Writes such a byte for each place below a count.
 fn put_marks(
     out: &mut [u8],
     at: usize,
@@ -55,7 +55,7 @@ fn put_marks(
     end
 }
 
-// The letters of a vector, or `-`.
+// Writes the letters of a vector, or `-`.
 fn put_letters(out: &mut [u8], at: usize, fields: u32, read: u32, write: u32) -> usize
     requires { ⌜ (fields ≤ 32) × (at + 32 < 2 ^ 64) ⌝ }
     ensures { λ r. ⌜ Appended (lettersFrom read write fields) (now (out .entry)) at r (now (out .exit)) ⌝ }
@@ -66,39 +66,39 @@ fn put_letters(out: &mut [u8], at: usize, fields: u32, read: u32, write: u32) ->
     put_marks(out, at, fields, write, read, b'W', b'R', b'N')
 }
 
-// The name that a name's word says, and a space.
+// Writes the name that a name's word refers to, and a space.
 fn put_name(text: &[u8], word: u32, out: &mut [u8], at: usize) -> usize
     requires { ⌜ at + 32 < 2 ^ 64 ⌝ }
     ensures { λ r. ⌜ Appended (nameFrom (now (text .entry)) word) (now (out .entry)) at r (now (out .exit)) ⌝ }
 {
-    let at = put_bytes(out, at, words::name_of(text, word));
+    let at = put_bytes(out, at, catalog::name_of(text, word));
     put_byte(out, at, b' ')
 }
 
-// A method's letters and a space.
+// Writes a method's letters and a space.
 fn put_vector(tables: &[u32], class: u32, method: u32, out: &mut [u8], at: usize) -> usize
     requires { ⌜ (method < 32) × (at + 33 < 2 ^ 64) ⌝ }
     ensures { λ r. ⌜ Appended (vectorFrom (now (tables .entry)) class method) (now (out .entry)) at r (now (out .exit)) ⌝ }
 {
-    let fields = words::member_count(tables, class, 0);
-    let read = words::class_word(tables, class, 136 + method);
-    let write = words::class_word(tables, class, 168 + method);
+    let fields = catalog::member_count(tables, class, 0);
+    let read = catalog::class_word(tables, class, layout::READ_MASKS_AT + method);
+    let write = catalog::class_word(tables, class, layout::WRITE_MASKS_AT + method);
     let at = put_letters(out, at, fields, read, write);
     put_byte(out, at, b' ')
 }
 
-// `y` or `n` for each method that a method commutes with or not, and a line feed.
+// Writes `y` for each method that a method commutes with and `n` for each other, and a line feed.
 fn put_flags(tables: &[u32], class: u32, method: u32, out: &mut [u8], at: usize) -> usize
     requires { ⌜ (method < 32) × (at + 33 < 2 ^ 64) ⌝ }
     ensures { λ r. ⌜ Appended (flagsFrom (now (tables .entry)) class method) (now (out .entry)) at r (now (out .exit)) ⌝ }
 {
-    let methods = words::member_count(tables, class, 1);
-    let mask = words::class_word(tables, class, 200 + method);
+    let methods = catalog::member_count(tables, class, 1);
+    let mask = catalog::class_word(tables, class, layout::COMMUTING_AT + method);
     let at = put_marks(out, at, methods, mask, mask, b'y', b'n', b'n');
     put_byte(out, at, b'\n')
 }
 
-// A method's line.
+// Writes a method's line.
 fn put_line(
     text: &[u8],
     tables: &[u32],
@@ -110,13 +110,23 @@ fn put_line(
     requires { ⌜ (method < 32) × (at + 130 < 2 ^ 64) ⌝ }
     ensures { λ r. ⌜ Appended (lineFrom (now (text .entry)) (now (tables .entry)) class method) (now (out .entry)) at r (now (out .exit)) ⌝ }
 {
-    let at = put_name(text, words::class_word(tables, class, 0), out, at);
-    let at = put_name(text, words::class_word(tables, class, 72 + method), out, at);
+    let at = put_name(
+        text,
+        catalog::class_word(tables, class, layout::CLASS_NAME_AT),
+        out,
+        at,
+    );
+    let at = put_name(
+        text,
+        catalog::class_word(tables, class, layout::METHOD_NAMES_AT + method),
+        out,
+        at,
+    );
     let at = put_vector(tables, class, method, out, at);
     put_flags(tables, class, method, out, at)
 }
 
-// One part of what is written of a method.
+// Writes one part of a method.
 fn put_cell(
     text: &[u8],
     tables: &[u32],
@@ -131,16 +141,20 @@ fn put_cell(
 {
     match part {
         Part::Masks => {
-            let read = words::class_word(tables, class, 136 + method);
-            let write = words::class_word(tables, class, 168 + method);
+            let read = catalog::class_word(tables, class, layout::READ_MASKS_AT + method);
+            let write = catalog::class_word(tables, class, layout::WRITE_MASKS_AT + method);
             put_pair(out, at, read, write)
         }
-        Part::Commuting => put_u32(out, at, words::class_word(tables, class, 200 + method)),
+        Part::Commuting => put_u32(
+            out,
+            at,
+            catalog::class_word(tables, class, layout::COMMUTING_AT + method),
+        ),
         Part::Line => put_line(text, tables, class, method, out, at),
     }
 }
 
-// That part of each method of a class.
+// Writes that part of each method of a class.
 fn put_methods(
     text: &[u8],
     tables: &[u32],
@@ -152,7 +166,7 @@ fn put_methods(
     requires { ⌜ at + 4160 < 2 ^ 64 ⌝ }
     ensures { λ r. ⌜ Appended (methodsFrom (now (text .entry)) (now (tables .entry)) part class) (now (out .entry)) at r (now (out .exit)) ⌝ }
 {
-    let count = words::member_count(tables, class, 1);
+    let count = catalog::member_count(tables, class, 1);
     let mut end = at;
     let mut method = 0;
     while method < count {
@@ -162,7 +176,7 @@ fn put_methods(
     end
 }
 
-// That part of each method of each class.
+// Writes that part of each method of each class.
 pub(crate) fn put_classes(
     text: &[u8],
     tables: &[u32],
@@ -173,7 +187,7 @@ pub(crate) fn put_classes(
     requires { ⌜ at + 66560 < 2 ^ 64 ⌝ }
     ensures { λ r. ⌜ Appended (eachMethod (now (tables .entry)) (cellFrom (now (text .entry)) (now (tables .entry)) part)) (now (out .entry)) at r (now (out .exit)) ⌝ }
 {
-    let count = words::class_count(tables);
+    let count = catalog::class_count(tables);
     let mut end = at;
     let mut class = 0;
     while class < count {

@@ -1,4 +1,4 @@
--- What document 01 takes for granted: tests of lists, look-ups, tables by number.
+-- What document 01 takes for granted: list functions, look-ups, tables by number.
 use Prim.Native.Nat.{ℕ, zero, suc}
 use Prim.Native.Char.{code}
 use Prim.Native.String.{String, [] as ε, _∷_ as _∷ˢ_}
@@ -12,7 +12,7 @@ abbrev pub bytes : String → List ℕ
 bytes ε = []
 bytes (c ∷ˢ s) = code c ∷ bytes s
 
--- Two lists of bytes are equal.
+-- Whether two lists of bytes are equal.
 unfoldable pub same : List ℕ → List ℕ → Bool
 same [] [] = true
 same [] (y ∷ ys) = false
@@ -32,18 +32,18 @@ module _ {A : Type 0} where
   keep p [] = []
   keep p (x ∷ xs) = cond (p x) (x ∷ keep p xs) (keep p xs)
 
-  -- Some two elements, in the list's order, are so related.
+  -- Whether some two elements, in the list's order, are related by the test.
   unfoldable pub somePair : (A → A → Bool) → List A → Bool
   unfolding any
   somePair r [] = false
   somePair r (x ∷ xs) = any (r x) xs || somePair r xs
 
-  -- The place of the first element of which p holds; the length where there is none.
+  -- The place of the first element that passes the test; the length where there is none.
   unfoldable pub firstAt : (A → Bool) → List A → ℕ
   firstAt p [] = 0
   firstAt p (x ∷ xs) = cond (p x) 0 (suc (firstAt p xs))
 
-  -- The element at place n altered; nothing where there is none.
+  -- The list with f applied to the element at place n; unchanged where there is none.
   unfoldable pub alter : ℕ → (A → A) → List A → List A
   alter n f [] = []
   alter zero f (x ∷ xs) = f x ∷ xs
@@ -54,7 +54,7 @@ module _ {A : Type 0} where
   upto f zero = []
   upto f (suc n) = upto f n ++ (f n ∷ [])
 
-  -- A function altered at one number.
+  -- The function with another value at one number.
   unfoldable pub put : (ℕ → A) → ℕ → A → ℕ → A
   put f n x k = let other = f k in cond (eqb k n) x other
 
@@ -63,7 +63,7 @@ module _ {A B : Type 0} where
   fold f b [] = b
   fold f b (x ∷ xs) = fold f (f b x) xs
 
--- The least number below n of which p holds.
+-- The least number below n that passes the test, or none.
 unfoldable pub least : (ℕ → Bool) → ℕ → Option ℕ
 unfolding orElse
 least p zero = none

@@ -1,4 +1,4 @@
--- The plain course of a text, which demand 3 compares the machine with (01, "The plain course").
+-- The plain course of a text, with which demand 3 compares the machine (01, "The plain course").
 use Prim.Native.Nat.{ℕ}
 use mathlib.Core.List.{List}
 pub use Rattle.model.specs.Alone.{Ran, thenRun, goOn, finished, objectByObject, alone}

@@ -1,4 +1,4 @@
--- Expressions, the E of 01's statements: how they are read from words and what they are worth.
+-- Expressions, the E of 01's statements: how they are read from words and how they are evaluated.
 use Prim.Native.Nat.{ℕ, zero, suc, _+_, _-_, _*_, _%_}
 use mathlib.Core.Bool.{cond}
 use mathlib.Core.List.{List, [], _∷_}
@@ -17,7 +17,7 @@ pub data Expression : Type 0 where
   argument got : Expression
   apply : Operator → Expression → Expression → Expression
 
--- What a word of an expression is.
+-- What a word is within an expression.
 pub data Token : Type 0 where
   operator : Operator → Token
   leaf : Expression → Token
@@ -37,7 +37,7 @@ tokenOf w =
     (cond (isNumber w) (leaf (number (decimal 0 w)))
     neither))))))))
 
--- An expression and the words behind it, or none.
+-- An expression and the words after it, or none.
 pub data Parsed : Type 0 where
   parsed : Expression → List (List ℕ) → Parsed
   unread : Parsed
@@ -46,14 +46,14 @@ abbrev pub andThen : Parsed → (Expression → List (List ℕ) → Parsed) → 
 andThen (parsed e ws) next = next e ws
 andThen unread next = unread
 
--- The expression that begins with a token, `operand` reading one that stands below an operator.
+-- The expression that begins with a token; `operand` reads one below an operator.
 abbrev pub from : (List (List ℕ) → Parsed) → Token → List (List ℕ) → Parsed
 from operand (operator o) ws = andThen (operand ws) (λ a rest. andThen (operand rest) (λ b behind. parsed (apply o a b) behind))
 from operand (leaf e) ws = parsed e ws
 from operand neither ws = unread
 
--- The expression at the front of the words. "No path holds more than 8 operators": with the leaf at its end a path has at
--- most 9 levels.
+-- The expression at the front of the words. "No path holds more than 8 operators": with the leaf at its end a path has at most 9
+-- levels.
 unfoldable pub readLevels : ℕ → List (List ℕ) → Parsed
 unfolding tokenOf
 readLevels zero ws = unread
@@ -71,7 +71,7 @@ operate times x y = x * y % 4294967296
 operate less x y = digit (ltb x y)
 operate equal x y = digit (eqb x y)
 
--- The value of an expression, where `fields` gives the object's fields by name.
+-- The value of an expression; `fields` gives the object's fields by name.
 unfoldable pub valueOf : (Name → ℕ) → ℕ → ℕ → Expression → ℕ
 valueOf fields arg got′ (number n) = n
 valueOf fields arg got′ (field f) = fields f

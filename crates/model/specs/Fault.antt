@@ -1,5 +1,5 @@
--- The numbers 13 to 17: what a line deserves by the lines above it, and a `send` also by the methods that its class still
--- writes below (01, "Numbers given"). Each fault is its tests in the order of the numbers; 0 is no fault.
+-- The faults 13 to 17 of a line, by the lines above it; for a `send` also by the methods that its class defines further below
+-- (01, "Numbers given"). Each fault is its tests in the order of the numbers; 0 is no fault.
 use Prim.Native.Nat.{ℕ}
 use mathlib.Core.Bool.{Bool, false, not, cond, _&&_, _||_}
 use mathlib.Core.Option.{Option, none, some}
@@ -40,7 +40,7 @@ unfoldable pub fieldFault : Class → Name → ℕ
 unfolding among
 fieldFault c n = cond (among (c .fields) n) 13 (cond (leb 32 (length (c .fields))) 17 0)
 
--- The class with the number c writes the method itself.
+-- Whether the class with the number c defines the method itself.
 unfoldable pub writes : ℕ → Class → Name → Bool
 unfolding among member
 writes c k m = among (k .methods) m && eqb (member (k .methods) m .origin) c
@@ -58,7 +58,7 @@ objectFault l n c vs =
     (cond (leb 64 (length (l .objects)) || ltb (length (className l c .fields)) (length vs)) 17
     0))
 
--- The expression names a field that the class has not.
+-- Whether the expression names a field that the class does not have.
 unfoldable pub strange : Class → Expression → Bool
 unfolding among
 strange c (number n) = false
@@ -76,7 +76,7 @@ laterBy endLine below = below
 laterBy (objectLine n c vs) below = []
 laterBy malformed below = below
 
--- The methods that the lines below still write in the class of this line.
+-- The methods that the lines below still define in the class of this line.
 unfoldable pub later : List Line → List Name
 later [] = []
 later (l ∷ ls) = laterBy (l .form) (later ls)
@@ -86,7 +86,7 @@ unfoldable pub ownMethod : Library → List Line → Name → Bool
 unfolding among any same later
 ownMethod l below m = among (lastClass l .methods) m || any (same m) (later below)
 
--- M is a method of C, "later ones included" where C is the class that is being read.
+-- Whether M is a method of C, "later ones included" where C is the class being read.
 unfoldable pub methodOf : Library → List Line → Name → Name → Bool
 unfolding classNumber ownMethod among className
 methodOf l below c m =
@@ -112,7 +112,7 @@ abbrev pub strangeGuard : Class → Option Expression → Bool
 strangeGuard c none = false
 strangeGuard c (some e) = strange c e
 
--- The statements of the method that is being read.
+-- The number of statements so far in the method being read.
 abbrev pub statementsSoFar : Class → ℕ
 statementsSoFar c = getD (c .methods) (c .latest) noMember .count
 
@@ -124,7 +124,7 @@ statementFault l below s =
     (cond (leb 32 (statementsSoFar (lastClass l))) 17
     0))
 
--- The lowest of 13 to 17 that a line deserves.
+-- The lowest of the faults 13 to 17 of a line, or 0.
 unfoldable pub faultOf : Library → List Line → Form → ℕ
 unfolding classFault fieldFault methodFault statementFault objectFault
 faultOf l below (classLine n ps) = classFault l n ps

@@ -22,7 +22,7 @@ pub record Statement : Type 0 where
   pub guard : Option Expression
   pub action : Action
 
--- What one line says.
+-- What one line declares.
 pub data Form : Type 0 where
   classLine : Name → List Name → Form
   fieldLine : Name → Form
@@ -32,7 +32,7 @@ pub data Form : Type 0 where
   objectLine : Name → Name → List ℕ → Form
   malformed : Form
 
--- The word that a line, or a statement behind its `when E`, begins with.
+-- The word that begins a line, or a statement after its `when E`.
 pub data Keyword : Type 0 where
   classWord fieldWord methodWord endWord objectWord setWord sendWord replyWord whenWord otherWord : Keyword
 
@@ -50,7 +50,7 @@ keywordOf w =
     (cond (same w (bytes "when")) whenWord
     otherWord))))))))
 
--- An expression that takes all the words, put into an action.
+-- The action of an expression that takes up all the words.
 abbrev pub whole : (Expression → Action) → Parsed → Option Action
 whole act (parsed e []) = some (act e)
 whole act (parsed e (w ∷ ws)) = none
@@ -60,7 +60,7 @@ abbrev pub given : Bool → Option Action → Option Action
 given true a = a
 given false a = none
 
--- "send M to self E" and "send C.M to self E": what stands for M is cut at its points.
+-- "send M to self E" and "send C.M to self E": the target is split at its points.
 abbrev pub sendTo : List Name → List (List ℕ) → Option Action
 sendTo [] ws = none
 sendTo (m ∷ []) ws = given (isName m) (whole (send m) (expression ws))
@@ -77,7 +77,7 @@ sendAction (m ∷ []) = none
 sendAction (m ∷ t ∷ []) = none
 sendAction (m ∷ t ∷ s ∷ ws) = given (same t (bytes "to") && same s (bytes "self")) (sendTo (pieces 46 m) ws)
 
--- The action that the words behind its keyword say.
+-- The action given by the words after its keyword.
 unfoldable pub actionOf : Keyword → List (List ℕ) → Option Action
 unfolding same pieces isName readLevels
 actionOf setWord ws = setAction ws
@@ -95,7 +95,7 @@ abbrev pub statementForm : Option Expression → Option Action → Form
 statementForm g none = malformed
 statementForm g (some a) = statementLine (record { guard = g; action = a })
 
--- The statement behind `when E`.
+-- The form of a guarded statement, from the reading of its `when E`.
 abbrev pub whenForm : Parsed → Form
 whenForm unread = malformed
 whenForm (parsed e []) = malformed
@@ -105,7 +105,7 @@ abbrev pub formIf : Bool → Form → Form
 formIf true f = f
 formIf false f = malformed
 
--- "`class NAME`, or `class NAME : P ..`"; how many parents is 17's.
+-- "`class NAME`, or `class NAME : P ..`"; the number of parents is tested by 17.
 abbrev pub classForm : List (List ℕ) → Form
 classForm [] = malformed
 classForm (n ∷ []) = formIf (isName n) (classLine n [])
@@ -146,13 +146,13 @@ unfolding formAs keywordOf
 formOf [] = malformed
 formOf (w ∷ ws) = formAs (keywordOf w) ws
 
--- A line, and its place in the text: where it begins and how long it is, LF excluded.
+-- A line with its place in the text: where it begins and its length, LF excluded.
 pub record Line : Type 0 where
   pub form : Form
   pub at : ℕ
   pub size : ℕ
 
--- The lines of a text of which the pieces are left, the first of them at `at`.
+-- The lines of the remaining pieces of a text, the first of which begins at `at`.
 unfoldable pub linesFrom : ℕ → List (List ℕ) → List Line
 unfolding formOf pieces
 linesFrom at [] = []

@@ -1,4 +1,4 @@
--- The late binding graph of a class and what is reached in it (definitions 7 to 9 of the paper).
+-- The late binding graph of a class and the vertices reached in it (definitions 7 to 9 of the paper).
 use Prim.Native.Nat.{ℕ, zero, suc}
 use mathlib.Core.Bool.{Bool, not, _&&_}
 use mathlib.Core.List.{List, [], _∷_, _++_, map, flatMap, List·Memᴰ}
@@ -9,7 +9,7 @@ use Rattle.model.specs.Word.{Name}
 use Rattle.model.specs.Form.{Action, assign, send, sendPrefixed, reply, Statement}
 use Rattle.model.specs.Library.{Library, Resolution, classNumber, bodyOf}
 
--- A vertex: the method of that name, as that class has it.
+-- A vertex: a method name in a class.
 pub record Node : Type 0 where
   pub class : ℕ
   pub method : Name
@@ -45,11 +45,11 @@ pub data Star {A : Type 0} (E : A → A → Type 0) (root : A) : A → Type 0 wh
   here : Star E root root
   further : {v w : A} → Star E root v → E v w → Star E root w
 
--- What is reached from a method in the graph of class c.
+-- The vertices reached from a method in the graph of class c, as a relation.
 abbrev pub Reached : Library → Resolution → ℕ → Node → Node → Type 0
 Reached l resolve c root v = Star (λ u w. List·Memᴰ w (successors l resolve c u)) root v
 
--- Every vertex that some statement of the text calls, once.
+-- The vertices that the statements of the text call, each once.
 unfoldable pub distinct : List Node → List Node
 unfolding keep sameNode
 distinct [] = []
@@ -59,7 +59,7 @@ unfoldable pub called : Library → ℕ → List Node
 unfolding distinct calls
 called l c = distinct (calls l c (map (λ s. s .statement) (l .statements)))
 
--- The same, computed: `done` are followed, `new` are next, of `rest` those that `new` lead to come after them.
+-- The closure computed in rounds: `done` have been followed, `new` are next, and those of `rest` that `new` lead to come after them.
 unfoldable pub rounds : (Node → List Node) → ℕ → List Node → List Node → List Node → List Node
 unfolding has keep flatMap
 rounds next zero done new rest = done ++ new
@@ -68,7 +68,7 @@ rounds next (suc n) done (v ∷ vs) rest =
     let led = flatMap next (v ∷ vs) in
     rounds next n (done ++ (v ∷ vs)) (keep (has led) rest) (keep (λ w. not (has led w)) rest)
 
--- The vertices that are reached from a method in the graph of class c.
+-- The vertices reached from a method in the graph of class c.
 unfoldable pub reached : Library → Resolution → ℕ → Node → List Node
 unfolding rounds successors called
 reached l resolve c root = let us = called l c in rounds (successors l resolve c) (suc (length us)) [] (root ∷ []) us

@@ -73,7 +73,7 @@ unfoldable pub compileAnswer : List ℕ → ℕ → Told
 unfolding read image
 compileAnswer text size = orFault (read text) (λ l. fitted (image text) size)
 
--- What the buffer holds after compiling.
+-- The contents of the buffer after compiling.
 unfoldable pub compiledInto : List ℕ → List ℕ → List ℕ
 unfolding image into
 compiledInto text buffer = into (image text) buffer
@@ -92,7 +92,7 @@ abbrev pub placeIn : Reading → ℕ → ℕ × ℕ
 placeIn (accepted l) count = placeAndSize (drop count (l .statements))
 placeIn (refused fault line) count = (0, 0)
 
--- Where the statement with this count stands in the text, and its size; 0 and 0 where the look-up is refused.
+-- The place and the size of the statement with this count in the text; 0 and 0 where the look-up is refused.
 unfoldable pub statementPlace : List ℕ → ℕ → ℕ × ℕ
 unfolding read
 statementPlace text count = placeIn (read text) count
@@ -123,7 +123,7 @@ abbrev pub writtenIn : Reading → List ℕ → List ℕ
 writtenIn (accepted l) values = cond (eqb (length values) (length (startingValues l))) (startingValues l) values
 writtenIn (refused fault line) values = values
 
--- "another call writes the text's starting values into such a list": what the list holds after it.
+-- "another call writes the text's starting values into such a list": the contents of the list after it.
 unfoldable pub startingValuesInto : List ℕ → List ℕ → List ℕ
 unfolding read startingValues
 startingValuesInto text values = writtenIn (read text) values

@@ -34,7 +34,7 @@ lockClash p (onObject o m) (onClass d n v) = false
 lockClash p (onClass c m w) (onObject q n) = false
 lockClash p (onClass c m w) (onClass d n v) = eqb c d && (w || v) && not (commuteIn p c m n)
 
--- Some lock of the one clashes with some lock of the other.
+-- Whether some lock of one list clashes with some lock of the other.
 unfoldable pub locksClash : Program → List Lock → List Lock → Bool
 unfolding any commuteIn
 locksClash p ks held = any (λ k. any (lockClash p k) held) ks

@@ -1,10 +1,11 @@
--- The machine of a text: 01's messages, locks and undo in the slots and calls of Service.
+-- The machine of a text: 01's messages, locks and undo notes in the slots and calls of Service.
 use Prim.Native.Nat.{ℕ}
 use mathlib.Core.Bool.{cond}
 use mathlib.Core.Option.{Option, none, some}
 use mathlib.Core.List.{List, [], _++_}
 use lib.ListN.{length, getD}
 use lib.Dec.{eqb, ltb}
+pub use Rattle.layout.specs.Layout.{stateWords}
 use Rattle.model.specs.Library.{methodNames}
 use Rattle.model.specs.Read.{Reading, accepted, refused, read}
 use Rattle.model.specs.Told.{Told, refusal, orFault}
@@ -41,7 +42,7 @@ messageTo p (domain c) k a = cond (ltb c (length (p .library .classes))) (method
 abbrev pub find : Program → Request → Option Message
 find p (to t k a) = messageTo p t k a
 
--- The machine's parts, for the slots and calls of Service.
+-- The machine's parts as a Service.
 abbrev pub service : Program → Service
 service p =
     record {
@@ -69,11 +70,8 @@ service p =
 abbrev pub call : (p : Program) → World (service p) → Call → Answer × World (service p)
 call p w c = Calls.call (service p) w c
 
--- "one length, the same for every text, named in docs/", in words.
-abbrev pub stateWords : ℕ
-stateWords = 26184
-
--- The answer of a start on a text, as many values and a state of `size` words: the text's fault, 21, 22.
+-- The answer of a start on a text, that many values and a state of `size` words: the text's fault, 21, 22. The state has "one
+-- length, the same for every text, named in docs/": `stateWords`.
 unfoldable pub startAnswer : List ℕ → ℕ → ℕ → Told
 unfolding read startingValues
 startAnswer text count size = orFault (read text) (λ l. cond (ltb size stateWords) (refusal 21 0) (counted l count))

@@ -18,7 +18,7 @@ pub use Rattle.model.specs.Service.{goes, ends, stops}
 pub data Target : Type 0 where
   object class domain : ℕ → Target
 
--- A send whose target and method exist. The method goes by name: each object runs "its own class's method of that name".
+-- A send whose target and method exist. The method is given by its name: each object runs "its own class's method of that name".
 pub record Message : Type 0 where
   pub target : Target
   pub method : Name
@@ -54,7 +54,7 @@ unfoldable pub baseOf : Program → ℕ → ℕ
 baseOf p zero = 0
 baseOf p (suc o) = baseOf p o + sizeOf p o
 
--- Where the value of an object's field is; none where its class has no such field.
+-- Where the value of an object's field is stored; none where its class has no such field.
 unfoldable pub placeOf : Program → ℕ → Name → Option ℕ
 unfolding baseOf memberPlace
 placeOf p o f =
@@ -69,7 +69,7 @@ valueAt fields (some k) = getD fields k 0
 abbrev pub look : Program → List ℕ → ℕ → Name → ℕ
 look p fields o f = valueAt fields (placeOf p o f)
 
--- What a step does to the fields: nothing, or it sets a place to a value.
+-- What a step does to the fields: nothing, or it sets the value at a place.
 pub data Effect : Type 0 where
   idle : Effect
   store : ℕ → ℕ → Effect
@@ -84,14 +84,14 @@ storeAt (some k) v = store k v
 
 -- ---- a running message
 
--- An activation: the statements of its body that are left, "its own `arg`", its `got` and its reply.
+-- An activation: the remaining statements of its body, "its own `arg`", its `got` and its reply.
 pub record Activation : Type 0 where
   pub rest : List Statement
   pub arg : ℕ
   pub got : ℕ
   pub reply : ℕ
 
--- A running message: the objects still to visit, the one it is on first; the activations on that object, the latest first;
+-- A running message: the objects still to visit, the current one first; the activations on the current object, the latest first;
 -- the steps taken on it; the sum of the replies so far.
 pub record Run : Type 0 where
   pub message : Message
@@ -108,7 +108,7 @@ abbrev pub firstActivation : Program → Message → List ℕ → List Activatio
 firstActivation p m [] = []
 firstActivation p m (o ∷ os) = opened (bodyOf (p .library) (p .resolve) (classOf p o) (m .method)) (m .argument) ∷ []
 
--- The message on its next objects, "each running its own class's method of that name with the send's argument".
+-- The message at its next objects, "each running its own class's method of that name with the send's argument".
 abbrev pub visit : Program → Message → List ℕ → ℕ → Run
 visit p m os sum = record { message = m; objects = os; activations = firstActivation p m os; steps = 0; sum = sum }
 
@@ -118,7 +118,7 @@ begun p m = visit p m (visited p (m .target)) 0
 abbrev pub Outcome : Type 0
 Outcome = Service.Outcome Run Effect
 
--- One step more on the same object.
+-- The outcome of one more step on the same object.
 abbrev pub onward : Run → List Activation → Effect → Outcome
 onward r below e = goes (record { message = r .message; objects = r .objects; activations = below; steps = suc (r .steps); sum = r .sum }) e
 
@@ -143,7 +143,7 @@ holds a fields (some e) = not (eqb (worth a fields e) 0)
 abbrev pub called : Run → Activation → List Activation → List Statement → ℕ → Outcome
 called r a below body v = cond (leb 8 (length (a ∷ below))) stops (onward r (opened body v ∷ a ∷ below) idle)
 
--- The statement's action on the object o, in the activation a, which goes on behind it.
+-- The statement's action on the object o, in the activation a, which then continues.
 abbrev pub perform : Program → Run → ℕ → Activation → List Activation → (Name → ℕ) → Action → Outcome
 perform p r o a below fields (assign f e) = onward r (a ∷ below) (storeAt (placeOf p o f) (worth a fields e))
 perform p r o a below fields (send m e) = called r a below (bodyOf (p .library) (p .resolve) (classOf p o) m) (worth a fields e)

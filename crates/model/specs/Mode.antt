@@ -1,5 +1,5 @@
--- The access modes of a field (01, "Vectors and commuting"; definition 2 of the paper). Only this file takes modes apart: the
--- others go by the two tests `depends` and `changes`.
+-- The access modes of a field (01, "Vectors and commuting"; definition 2 of the paper). Proofs use modes through the two tests
+-- `depends` and `changes`.
 use Prim.Native.Nat.{ℕ}
 use mathlib.Core.Bool.{Bool, true, false, not}
 use mathlib.Core.List.{List, [], _∷_}
@@ -14,7 +14,7 @@ rank Null = 0
 rank Read = 1
 rank Write = 2
 
--- What runs on an object depends on the field, or changes it.
+-- Whether a run on an object depends on the field; whether it changes it.
 abbrev pub depends : Mode → Bool
 depends Null = false
 depends Read = true
@@ -37,7 +37,7 @@ unfoldable pub joins : List Mode → Mode
 joins [] = Null
 joins (m ∷ ms) = join m (joins ms)
 
--- "Table 1 of 003, a constant table": which modes go together.
+-- "Table 1 of 003, a constant table": which modes are compatible.
 abbrev pub compatible : List (List Bool)
 compatible =
     (true ∷ true ∷ true ∷ []) ∷

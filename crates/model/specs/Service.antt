@@ -1,6 +1,6 @@
--- The machine's slots and calls, and the plain course, over any kind of messages, locks and undo (01, "The machine", "The
--- plain course", the numbers 31 to 41). What 01 says of messages, locks and undo themselves is in Message, Lock, Undo and
--- Alone; Machine puts the two together.
+-- The machine's slots and calls, and the plain course, over any kind of messages, locks and undo notes (01, "The machine", "The
+-- plain course", the numbers 31 to 41). 01's own messages, locks and undo notes are in Message, Lock, Undo and Alone; Machine
+-- puts the two together.
 use Prim.Native.Nat.{ℕ}
 use mathlib.Core.Bool.{Bool, true, false, not, _&&_}
 use mathlib.Core.Option.{Option, none, some}
@@ -8,14 +8,14 @@ use mathlib.Core.List.{List, [], _∷_, _++_}
 use lib.Dec.{eqb, ltb}
 use Rattle.model.specs.Base.{put, least}
 
--- What a step comes to: the message goes on, or ends with its answer, or is stopped.
+-- The outcome of a step: the message goes on, or ends with its answer, or is stopped.
 pub data Outcome (Run Effect : Type 0) : Type 0 where
   goes : Run → Effect → Outcome Run Effect
   ends : ℕ → Effect → Outcome Run Effect
   stops : Outcome Run Effect
 
--- What slots and calls need of messages, locks and undo. A step does not change the fields itself: it has an effect, and the
--- effect acts on them.
+-- What slots and calls need of messages, locks and undo notes. A step does not change the fields itself: it has an effect, and
+-- the effect acts on them.
 pub record Service : Type 1 where
   -- the fields' values
   pub Fields : Type 0
@@ -27,11 +27,11 @@ pub record Service : Type 1 where
   pub Run : Type 0
   -- what a step does to the fields
   pub Effect : Type 0
-  -- what a transaction notes so as to undo its effects
+  -- a transaction's undo notes
   pub Undo : Type 0
   -- the locks that a transaction holds
   pub Locks : Type 0
-  -- the message that a send is; none where its target or method does not exist
+  -- the message of a send; none where its target or method does not exist
   pub find : Request → Option Message
   -- a message at its start
   pub begun : Message → Run
@@ -39,17 +39,17 @@ pub record Service : Type 1 where
   pub turn : Run → Fields → Outcome Run Effect
   -- the fields after an effect
   pub act : Effect → Fields → Fields
-  -- the notes at begin
+  -- the undo notes at begin
   pub clean : Undo
-  -- the notes after an effect on the fields
+  -- the undo notes after an effect on the fields
   pub noted : Undo → Effect → Fields → Undo
-  -- the fields with all that was noted put back
+  -- the fields with all noted values put back
   pub putBack : Undo → Fields → Fields
   -- the locks at begin
   pub unlocked : Locks
   -- the locks with those of a message added
   pub lock : Message → Locks → Locks
-  -- a lock of the message clashes with one of these
+  -- whether a lock of the message clashes with one of these
   pub clash : Message → Locks → Bool
   -- the course's run of one send: its answer and the fields after it; none where it would be stopped
   pub alone : Message → Fields → Option (ℕ × Fields)
@@ -60,7 +60,7 @@ pub data Call (Request : Type 0) : Type 0 where
   send : ℕ → Request → Call Request
   step commit abort : ℕ → Call Request
 
--- What a call answers: done (a send: granted), "going", the message's answer, a tablet's number 31 to 36, 40 with the lowest
+-- The answer of a call: done (a send: granted), "going", the message's answer, a tablet's number 31 to 36, 40 with the lowest
 -- clashing slot, or 41.
 pub data Answer : Type 0 where
   done going : Answer
@@ -69,7 +69,7 @@ pub data Answer : Type 0 where
   held : ℕ → Answer
   stopped : Answer
 
--- The number of an answer: 01's; of those without one 0 for done, 1 for going, 2 for the message's answer.
+-- The number of an answer: 01's where it has one; else 0 for done, 1 for going, 2 for the message's answer.
 abbrev pub callNumber : Answer → ℕ
 callNumber done = 0
 callNumber going = 1
@@ -78,7 +78,7 @@ callNumber (refuse n) = n
 callNumber (held s) = 40
 callNumber stopped = 41
 
--- What goes with it: the message's answer, or the lowest clashing slot; 0 where there is neither.
+-- The detail of an answer: the message's answer, or the lowest clashing slot; 0 where there is neither.
 abbrev pub callDetail : Answer → ℕ
 callDetail done = 0
 callDetail going = 0
@@ -97,7 +97,7 @@ module _ (𝓢 : Service) where
 
   -- ---- the machine
 
-  -- An open transaction: its locks, "held until commit or abort", its undo notes, and the message that runs, if any.
+  -- An open transaction: its locks, "held until commit or abort", its undo notes, and its running message, if any.
   pub record Transaction : Type 0 where
     pub locks : Locks
     pub undo : Undo
@@ -117,7 +117,10 @@ module _ (𝓢 : Service) where
   abbrev pub fresh : Fields → World
   fresh fields = record { fields = fields; slots = λ s. closed }
 
-  -- The machine with one slot altered.
+  -- The machine with other fields, and with one slot changed.
+  abbrev pub withFields : World → Fields → World
+  withFields w fields = record { fields = fields; slots = w .slots }
+
   abbrev pub withSlot : World → ℕ → Slot → World
   withSlot w s x = record { fields = w .fields; slots = put (w .slots) s x }
 
@@ -125,20 +128,27 @@ module _ (𝓢 : Service) where
   abbrev pub newTransaction : Transaction
   newTransaction = record { locks = unlocked; undo = clean; running = none }
 
+  -- The transaction with a message's locks added and the message started.
+  abbrev pub started : Transaction → Message → Transaction
+  started t m = record { locks = lock m (t .locks); undo = t .undo; running = some (begun m) }
+
+  -- The transaction with the note of an effect on the fields, and with what runs next.
+  abbrev pub advanced : Transaction → Effect → Fields → Option Run → Transaction
+  advanced t e fields r = record { locks = t .locks; undo = noted (t .undo) e fields; running = r }
+
   -- The locks of a slot.
   abbrev pub heldBy : Slot → Locks
   heldBy closed = unlocked
   heldBy (opened t) = t .locks
 
-  -- Slot t is another than s and holds a lock that clashes with the message.
+  -- Whether slot t is another than s and holds a lock that clashes with the message.
   abbrev pub inTheWay : World → ℕ → Message → ℕ → Bool
   inTheWay w s m t = not (eqb t s) && clash m (heldBy (w .slots t))
 
   -- "A send clashing with no other slot gets all its locks and starts; otherwise 40 names the lowest clashing slot."
   abbrev pub granted : World → ℕ → Transaction → Message → Option ℕ → Answer × World
   granted w s t m (some k) = (held k, w)
-  granted w s t m none =
-      (done, withSlot w s (opened (record { locks = lock m (t .locks); undo = t .undo; running = some (begun m) })))
+  granted w s t m none = (done, withSlot w s (opened (started t m)))
 
   -- "36 no such object, class or method"; "40, after 36"
   abbrev pub sent : World → ℕ → Transaction → Option Message → Answer × World
@@ -147,15 +157,11 @@ module _ (𝓢 : Service) where
 
   -- "Abort puts back .. and frees the slot."
   abbrev pub undone : World → ℕ → Transaction → World
-  undone w s t = record { fields = putBack (t .undo) (w .fields); slots = put (w .slots) s closed }
+  undone w s t = withSlot (withFields w (putBack (t .undo) (w .fields))) s closed
 
-  -- A transaction after a step's effect, with what then runs.
+  -- The world after a step's effect, with what runs next.
   abbrev pub after : World → ℕ → Transaction → Effect → Option Run → World
-  after w s t e r =
-      record {
-        fields = act e (w .fields);
-        slots = put (w .slots) s (opened (record { locks = t .locks; undo = noted (t .undo) e (w .fields); running = r }));
-      }
+  after w s t e r = withSlot (withFields w (act e (w .fields))) s (opened (advanced t e (w .fields) r))
 
   -- "A step answers "going" or the message's answer."; "41 .. That step does the work of abort."
   abbrev pub stepped : World → ℕ → Transaction → Outcome Run Effect → Answer × World
@@ -187,7 +193,7 @@ module _ (𝓢 : Service) where
   onRunning w t r (commit s) = (refuse 34, w)
   onRunning w t r (abort s) = (done, undone w s t)
 
-  -- A call on an open slot, by what runs there.
+  -- A call on an open slot, by its running message, if any.
   abbrev pub onOpen : World → Call Request → Transaction → Option Run → Answer × World
   onOpen w c t none = onIdle w t c
   onOpen w c t (some r) = onRunning w t r c
@@ -225,7 +231,7 @@ module _ (𝓢 : Service) where
 
   -- ---- the plain course
 
-  -- A send with the answer that it got.
+  -- A send with its answer.
   pub record Answered : Type 0 where
     pub message : Message
     pub answer : ℕ
@@ -235,7 +241,7 @@ module _ (𝓢 : Service) where
     pub latest : Option Message
     pub list : List Answered
 
-  -- "It has no locks. It holds fields, and for each slot a list of sends"; beside them the answers compared so far.
+  -- "It has no locks. It holds fields, and for each slot a list of sends"; also the answers compared so far.
   pub record Course : Type 0 where
     pub fields : Fields
     pub slots : ℕ → Sends
@@ -249,11 +255,11 @@ module _ (𝓢 : Service) where
   abbrev pub startCourse : Fields → Course
   startCourse fields = record { fields = fields; slots = λ s. noSends; compared = [] }
 
-  -- The course with one slot's sends altered.
+  -- The course with one slot's sends changed.
   abbrev pub withSends : Course → ℕ → Sends → Course
   withSends x s l = record { fields = x .fields; slots = put (x .slots) s l; compared = x .compared }
 
-  -- The fields after a run. One that would be stopped leaves them as they are.
+  -- The fields after a run; unchanged by one that would be stopped.
   abbrev pub fieldsAfter : Option (ℕ × Fields) → Fields → Fields
   fieldsAfter none fields = fields
   fieldsAfter (some y) fields = y .1

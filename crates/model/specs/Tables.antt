@@ -1,4 +1,4 @@
--- What the program `tables` prints for a text (01, "What `tables` prints").
+-- The output of the program `tables` for a text (01, "What `tables` prints").
 use Prim.Native.Nat.{ℕ, zero, suc, _+_, _/_, _%_}
 use mathlib.Core.Bool.{Bool, true, false, cond}
 use mathlib.Core.List.{List, [], _∷_, _++_, map, flatMap}
@@ -42,7 +42,7 @@ unfoldable pub classPrinted : Program → ℕ → List ℕ
 unfolding methodPrinted
 classPrinted p c = let vs = getD (p .vectors) c [] in methodsPrinted (classAt (p .library) c .name) vs (methodNames (p .library) c) vs
 
--- A number in decimal digits, of which there are at most n.
+-- The decimal digits of a number, at most n of them.
 unfoldable pub digits : ℕ → ℕ → List ℕ
 digits zero k = []
 digits (suc n) k = cond (ltb k 10) ((48 + k) ∷ []) (digits n (k / 10) ++ ((48 + k % 10) ∷ []))
@@ -64,12 +64,12 @@ unfoldable pub printed : List ℕ → List ℕ
 unfolding read program programPrinted refusalPrinted
 printed text = printedFor (read text)
 
--- The answer of printing into a buffer of `size` bytes: 21 where it is shorter than what is printed, a `refused` line included.
+-- The answer of printing into a buffer of `size` bytes: 21 where the buffer is shorter than the output, a `refused` line included.
 unfoldable pub printAnswer : List ℕ → ℕ → Told
 unfolding printed
 printAnswer text size = fitted (printed text) size
 
--- What the buffer holds after printing.
+-- The contents of the buffer after printing.
 unfoldable pub printedInto : List ℕ → List ℕ → List ℕ
 unfolding printed into
 printedInto text buffer = into (printed text) buffer

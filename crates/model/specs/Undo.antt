@@ -1,4 +1,4 @@
--- What a transaction notes so as to be undone (01, "Abort puts back ..").
+-- The undo notes of a transaction (01, "Abort puts back ..").
 use Prim.Native.Nat.{ℕ, zero, suc}
 use mathlib.Core.Option.{Option, none, some}
 use mathlib.Core.List.{List, [], _∷_}
@@ -6,7 +6,7 @@ use lib.ListN.{getD}
 use Rattle.model.specs.Base.{put}
 use Rattle.model.specs.Message.{Effect, idle, store}
 
--- For each place of the fields, the value before the transaction's first set of it, if it set it.
+-- For each place of the fields, the value before the transaction's first set of it; none where it did not set it.
 abbrev pub Undo : Type 0
 Undo = ℕ → Option ℕ
 
@@ -14,7 +14,7 @@ abbrev pub firstValue : Option ℕ → ℕ → Option ℕ
 firstValue none v = some v
 firstValue (some u) v = some u
 
--- The notes after an effect on the fields.
+-- The undo notes after an effect on the fields.
 abbrev pub noted : Undo → Effect → List ℕ → Undo
 noted u idle fields = u
 noted u (store k v) fields = put u k (firstValue (u k) (getD fields k 0))

@@ -8,11 +8,11 @@ use Rattle.model.specs.Base.{same, upto}
 use Rattle.model.specs.Word.{Name}
 use Rattle.model.specs.Expression.{Expression, number, field, argument, got, apply}
 use Rattle.model.specs.Form.{Action, assign, send, sendPrefixed, reply, Statement}
-use Rattle.model.specs.Library.{Library, Resolution, classAt, memberPlace, bodyOf, byFirstParent, fieldNames, methodNames}
+use Rattle.model.specs.Library.{Library, Resolution, classAt, memberPlace, bodyOf, asRecorded, fieldNames, methodNames}
 use Rattle.model.specs.Mode.{Mode, Null, Read, Write, join, joins, clash}
 use Rattle.model.specs.Graph.{Node, reached}
 
--- The mode of the field f that its mention as g is worth.
+-- The mode that a mention of field g gives field f: Null unless they are the same field.
 abbrev pub mention : Mode → Name → Name → Mode
 mention m f g = cond (same f g) m Null
 
@@ -51,7 +51,7 @@ inBody f ss = joins (map (inStatement f) ss)
 abbrev pub Vector : Type 0
 Vector = List Mode
 
--- The direct vectors of some vertices' bodies, joined (definition 4), over the fields of class c.
+-- The direct vectors of the vertices' bodies, joined (definition 4), over the fields of class c.
 unfoldable pub joinedVector : Library → Resolution → ℕ → List Node → Vector
 unfolding joins inBody bodyOf
 joinedVector l resolve c vs = map (λ f. joins (map (λ v. inBody f (bodyOf l resolve (v .class) (v .method))) vs)) (fieldNames l c)
@@ -68,8 +68,7 @@ commute [] ws = true
 commute (v ∷ vs) [] = true
 commute (v ∷ vs) (w ∷ ws) = not (clash v w) && commute vs ws
 
--- What the vector compiler makes of a library under a rule of resolution: the transitive vectors, class by class and method
--- by method.
+-- The vector compiler's output for a library under a rule of resolution: the transitive vectors by class and method.
 pub record Program : Type 0 where
   pub library : Library
   pub resolve : Resolution
@@ -84,10 +83,10 @@ programBy l resolve = record { library = l; resolve = resolve; vectors = upto (v
 
 -- The program of a library, by 01's rule.
 unfoldable pub program : Library → Program
-unfolding programBy byFirstParent
-program l = programBy l (byFirstParent l)
+unfolding programBy asRecorded
+program l = programBy l (asRecorded l)
 
--- The transitive vector of the method m in class c; of an unknown method, which runs nothing, a vector without fields.
+-- The transitive vector of the method m in class c; for an unknown method, which runs nothing, a vector without fields.
 unfoldable pub vectorOf : Program → ℕ → Name → Vector
 unfolding memberPlace
 vectorOf p c m = getD (getD (p .vectors) c []) (memberPlace (classAt (p .library) c .methods) m) []

@@ -1,1 +1,1 @@
-// The model is definitions alone: see specs/.
+// The model: definitions only, in specs/.

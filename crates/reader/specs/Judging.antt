@@ -6,30 +6,31 @@ use mathlib.Core.List.{List, [], _∷_}
 use native.Mathlib.Omega.{arith}
 use lib.ListN.{length, drop, getD, set, length-append, length-set}
 use lib.Seq.{getD-set-same, getD-set-other}
+use Rattle.layout.specs.Layout.{classesMost, statementsMost, objectsMost, classCountAt, statementCountAt, objectCountAt, tableWords}
 use Rattle.model.specs.Base.{upto}
 use Rattle.model.specs.Text.{words}
 use Rattle.model.specs.Form.{Form, classLine, fieldLine, methodLine, statementLine, endLine, objectLine, malformed, formOf, Line}
 use Rattle.model.specs.Library.{Library, nothing, add}
 use Rattle.model.specs.Fault.{faultOf}
 use Rattle.model.specs.Read.{Reading, accepted, refused, unless, judged}
-use Rattle.lex.specs.Scan.{isByte, before}
-use Rattle.syntax.specs.Kinds.{kindOf}
-use Rattle.words.specs.View.{statementCount, classOf, placedOf, objectOf, libraryOf}
-use Rattle.classes.specs.Took.{Took, ClassTook, FieldTook, MethodTook}
-use Rattle.classes.specs.Lines.{lineOf, line-length}
-use Rattle.bodies.specs.Below.{linesAt, placedLine, lines-more, lines-end}
-use Rattle.bodies.specs.Took.{StatementTook, ObjectTook}
+use Rattle.text_lex.specs.Scan.{isByte, before}
+use Rattle.text_syntax.specs.Kinds.{kindOf}
+use Rattle.catalog.specs.View.{statementCount, classOf, placedOf, objectOf, libraryOf}
+use Rattle.read_classes.specs.Took.{Took, ClassTook, FieldTook, MethodTook}
+use Rattle.read_classes.specs.Lines.{lineOf, line-length}
+use Rattle.read_lines.specs.Below.{linesAt, placedLine, lines-more, lines-end}
+use Rattle.read_lines.specs.Took.{StatementTook, ObjectTook}
 use Rattle.reader.specs.Sizes.{statement-size}
 
--- The line from `at` to `end` is judged by what is above it and below it, where there is room for a statement.
+-- The result of the line from `at` to `end`, by what is above it and below it, where there is room for a statement.
 module _ (text ws : List ℕ) (at end r : ℕ) (ws′ : List ℕ) where
   abbrev pub TookAs : Form → Type 0
   TookAs f = Took (libraryOf text ws) (record { form = f; at = at; size = length (lineOf text at end) }) f (faultOf (libraryOf text ws) (linesAt text (end + 1)) f) r (libraryOf text ws′)
 
   abbrev pub LineTook : Type 0
-  LineTook = statementCount ws < 4096 → TookAs (formOf (words (lineOf text at end)))
+  LineTook = statementCount ws < statementsMost → TookAs (formOf (words (lineOf text at end)))
 
-  -- What is promised of a line of each kind; `end` and what has no form alter nothing.
+  -- The result of a line of each kind; `end` and a line without form change nothing.
   abbrev Left : Type 0
   Left = (r ≡ 0) × (ws′ ≡ ws)
 
@@ -42,7 +43,7 @@ module _ (text ws : List ℕ) (at end r : ℕ) (ws′ : List ℕ) where
   Promised (suc (suc (suc (suc (suc zero))))) = ObjectTook text ws at end r ws′
   Promised (suc (suc (suc (suc (suc (suc n)))))) = Left
 
-  by-form : (f : Form) → formOf (words (lineOf text at end)) ≡ f → Promised (kindOf f) → statementCount ws < 4096 → TookAs f
+  by-form : (f : Form) → formOf (words (lineOf text at end)) ≡ f → Promised (kindOf f) → statementCount ws < statementsMost → TookAs f
   unfolding faultOf add
   by-form (classLine n ps) e p room = p _ n ps e
   by-form (fieldLine n) e p room = p _ n e
@@ -62,7 +63,7 @@ module _ (text : List ℕ) (at end : ℕ) (h : end ≡ at + before (isByte 10) (
   unfolding judged
   judged-end l n k = ap (judged l n) (lines-end text at end h k)
 
-  -- The next line ends at `end`, and was taken.
+  -- The next line ends at `end`, and was recorded.
   module _ (k : end < length text) (ws : List ℕ) (r : ℕ) (ws′ : List ℕ) (t : TookAs text ws at end r ws′ (formOf (words (lineOf text at end)))) where
     abbrev l : Library
     l = libraryOf text ws
@@ -108,19 +109,19 @@ module _ (text : List ℕ) (at end : ℕ) (h : end ≡ at + before (isByte 10) (
 -- ---- empty tables
 
 abbrev pub cleared : List ℕ → List ℕ
-cleared ws = set (set (set ws 0 0) 1 0) 2 0
+cleared ws = set (set (set ws classCountAt 0) statementCountAt 0) objectCountAt 0
 
-pub nothing-yet : (text ws : List ℕ) → length ws ≡ 8072 → libraryOf text (cleared ws) ≡ nothing
+pub nothing-yet : (text ws : List ℕ) → length ws ≡ tableWords → libraryOf text (cleared ws) ≡ nothing
 unfolding libraryOf upto
 nothing-yet text ws z =
-    let a = set ws 0 0 in
-    let b = set a 1 0 in
-    let m = length-set ws 0 0 in
-    let n = length-set a 1 0 in
-    let k = getD-set-other b 2 0 0 0 (λ e. omega arith) ∙ getD-set-other a 1 0 0 0 (λ e. omega arith) ∙ getD-set-same ws 0 0 0 (omega arith) in
-    let p : min 16 (getD (cleared ws) 0 0) ≡ 0 = omega arith in
-    let q : min 4096 (getD (cleared ws) 1 0) ≡ 0 = omega (arith, getD-set-other b 2 1 0 0 (λ e. omega arith), getD-set-same a 1 0 0 (omega arith)) in
-    let r : min 64 (getD (cleared ws) 2 0) ≡ 0 = omega (arith, getD-set-same b 2 0 0 (omega arith)) in
+    let a = set ws classCountAt 0 in
+    let b = set a statementCountAt 0 in
+    let m = length-set ws classCountAt 0 in
+    let n = length-set a statementCountAt 0 in
+    let k = getD-set-other b objectCountAt 0 0 0 (λ e. omega arith) ∙ getD-set-other a statementCountAt 0 0 0 (λ e. omega arith) ∙ getD-set-same ws classCountAt 0 0 (omega arith) in
+    let p : min classesMost (getD (cleared ws) classCountAt 0) ≡ 0 = omega arith in
+    let q : min statementsMost (getD (cleared ws) statementCountAt 0) ≡ 0 = omega (arith, getD-set-other b objectCountAt 1 0 0 (λ e. omega arith), getD-set-same a statementCountAt 0 0 (omega arith)) in
+    let r : min objectsMost (getD (cleared ws) objectCountAt 0) ≡ 0 = omega (arith, getD-set-same b objectCountAt 0 0 (omega arith)) in
     λ i. record {
       classes = upto (classOf text (cleared ws)) (p i);
       statements = upto (placedOf text (cleared ws)) (q i);

@@ -1,4 +1,4 @@
--- A statement line has at least 7 bytes, so that with their LF at most 4,096 of them are in a text.
+-- A statement line has at least 7 bytes, so a text holds at most 4,096 of them with their LF.
 use Prim.Native.Nat.{ℕ, suc, _≤_}
 use mathlib.Core.Path.{_≡_, refl, sym, ap, subst, _∙_}
 use mathlib.Core.Bool.{true, false≢true}
@@ -9,10 +9,10 @@ use Rattle.model.specs.Text.{words}
 use Rattle.model.specs.Word.{Name, isName, isNumber}
 use Rattle.model.specs.Expression.{Expression, parsed, unread, expression, tokenOf, readLevels}
 use Rattle.model.specs.Form.{Action, Statement, statementLine, formOf}
-use Rattle.lex.specs.Scan.{isByte, before}
-use Rattle.lex.specs.Piece.{wordsAfter, others, span, pieces-step, span-after}
-use Rattle.syntax.specs.Reading.{Tail, tail-after}
-use Rattle.footprints.specs.Spelling.{ActionWords, sets, sends, sends-prefixed, replies, StatementWords, bare, guarded, spelled}
+use Rattle.text_lex.specs.Scan.{isByte, before}
+use Rattle.text_lex.specs.Piece.{wordsAfter, others, span, pieces-step, span-after}
+use Rattle.text_syntax.specs.Reading.{Tail, tail-after}
+use Rattle.text_syntax.specs.Spelling.{ActionWords, sets, sends, sends-prefixed, replies, StatementWords, bare, guarded, spelled}
 
 -- An expression's first word is not empty.
 expression-size : (ws : List (List ℕ)) (e : Expression) (rest : List (List ℕ)) → expression ws ≡ parsed e rest → 2 ≤ span ws
@@ -37,7 +37,7 @@ module _ (line : List ℕ) where
   line-span : span (words line) ≡ suc (length line)
   line-span = span-after 32 (0 ∷ line)
 
-  -- What an expression leaves of the line's words is no more than the line.
+  -- The words left after an expression are no longer than the line.
   left-size : (ws rest : List (List ℕ)) (e : Expression) → ws ≡ others (words line) → expression ws ≡ parsed e rest → span rest ≤ length line
   left-size ws rest e h q =
       let p = before (isByte 32) line in

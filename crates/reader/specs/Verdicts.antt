@@ -1,4 +1,4 @@
--- What a verdict says of a text, and of the tables that it was read into.
+-- What a verdict means for a text, and for the tables that it was read into.
 use Prim.Native.Nat.{ℕ, zero, suc, _≤_, _<_}
 use mathlib.Core.Path.{_≡_, refl, sym, ap, subst, _∙_}
 use mathlib.Core.Logic.{_≢_}
@@ -11,8 +11,8 @@ use Rattle.model.specs.Text.{linesAndRest}
 use Rattle.model.specs.Form.{linesFrom, restOf, atStart, firstMisplaced}
 use Rattle.model.specs.Library.{Library, nothing}
 use Rattle.model.specs.Read.{Reading, accepted, refused, judged, orJudged, readPieces, read, faultAndLine, verdict, libraryIn, library}
-use Rattle.words.specs.View.{classCount, statementCount, objectCount, libraryOf}
-use Rattle.words.specs.Look.{class-count, statement-count, object-count}
+use Rattle.catalog.specs.View.{classCount, statementCount, objectCount, libraryOf}
+use Rattle.catalog.specs.Look.{class-count, statement-count, object-count}
 use Rattle.reader.specs.declared.Verdict.{Verdict}
 use Rattle.reader.specs.declared.Verdict.the-variants.{Accepted, Refused}
 
@@ -20,7 +20,7 @@ abbrev pub said : Verdict → ℕ × ℕ
 said Accepted = (0, 0)
 said (Refused number line) = (number, line)
 
--- What a verdict refuses, and what a reading refuses: nothing, or a number with its line.
+-- What a verdict, and what a reading, refuses: nothing, or a number with its line.
 abbrev pub refusal : Verdict → Option (ℕ × ℕ)
 refusal Accepted = none
 refusal (Refused number line) = some (number, line)
@@ -29,12 +29,12 @@ abbrev pub refusalIn : Reading → Option (ℕ × ℕ)
 refusalIn (accepted l) = none
 refusalIn (refused number line) = some (number, line)
 
--- The verdict on a reading, where the tables say the library l.
+-- The verdict on a reading, where the tables represent the library l.
 abbrev pub Tells : Verdict → Library → Reading → Type 0
 Tells Accepted l r = r ≡ accepted l
 Tells (Refused number line) l r = r ≡ refused number line
 
--- The verdict is the text's, and where it is accepted the tables say its library.
+-- The verdict is the text's, and where it is accepted the tables represent its library.
 pub record ReadInto (text : List ℕ) (r : Verdict) (ws : List ℕ) : Type 0 where
   pub tells : Tells r (libraryOf text ws) (read text)
   pub number : said r ≡ verdict text
@@ -52,7 +52,7 @@ tells-refusal (Refused number line) l x e = sym (ap refusalIn e)
 pub checks : {text : List ℕ} {r : Verdict} {ws : List ℕ} → ReadInto text r ws → Checks text r
 checks {text} {r} {ws} h = record { refuses = tells-refusal r (libraryOf text ws) (read text) (h .tells); number = h .number }
 
--- The tables of an accepted text count what its library has.
+-- The counts in the tables of an accepted text are those of its library.
 module _ {text : List ℕ} {r : Verdict} {ws : List ℕ} (h : ReadInto text r ws) (e : r ≡ Accepted) where
   pub classes-read : classCount ws ≡ length (library text .classes)
   classes-read = sym (class-count text ws) ∙ ap (λ (l : Library). length (l .classes)) (h .known e)
@@ -71,7 +71,7 @@ module _ (text ws : List ℕ) where
   told Accepted e = record { tells = e; number = sym (ap faultAndLine e); known = λ q. sym (ap libraryIn e) }
   told (Refused number line) e = record { tells = e; number = sym (ap faultAndLine e); known = λ q. let z : _≡_ {A = ℕ} 0 1 = cc in absurd (omega arith) }
 
-  -- 11, 12, and what the second pass says.
+  -- 11, 12, and the verdict of the second pass.
   pub too-long : 32768 < length text → ReadInto text (Refused 11 0) ws
   unfolding read
   too-long h = told (Refused 11 0) (rw (lt-ltb 32768 (length text) h))

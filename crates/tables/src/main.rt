@@ -2,7 +2,7 @@
 use libc::STDIN_FILENO;
 use libc::STDOUT_FILENO;
 
-// Writes the first bytes of the lines out.
+// Writes out the first bytes of the lines.
 fn print_front(lines: &[u8], size: usize) {
     if size <= lines.len() {
         let start = 0;
@@ -21,7 +21,7 @@ fn print_text(text: &[u8]) {
 }
 
 fn main() {
-    // Twice the longest text: what is longer is cut, and refused as too long all the same.
+    // Twice the longest text: a longer one is cut, and is refused as too long all the same.
     let mut text = io::large_buffer();
     let size = io::read_full(STDIN_FILENO, &mut text);
     print_text(&text[..size]);

@@ -1,5 +1,5 @@
--- The plain course runs a send object by object; the machine runs it by turns. Where turns come to an answer, the course comes
--- to the same answer and the same fields.
+-- The plain course runs a send object by object; the machine runs it step by step. Where the steps come to an answer, the course
+-- comes to the same answer and the same fields.
 use Prim.Native.Nat.{ℕ, suc, _-_, _<_}
 use native.Mathlib.Omega.{arith}
 use mathlib.Core.Path.{_≡_, refl, sym, ap, subst, _∙_}
@@ -16,9 +16,9 @@ use Rattle.model.specs.Message.{Message, classOf, visited, placeOf, look, Effec
 use Rattle.model.specs.Alone.{Ran, thenRun, goOn, finished, objectByObject, alone}
 use Rattle.model.specs.Machine.{service}
 use Rattle.twophase.specs.Laws.{Part, start, more}
-use Rattle.theory.specs.ListLaws.{ltb-true}
+use Rattle.laws.specs.Lists.{ltb-true}
 
--- A step on an object: it goes on there, the object ends with a reply, or the message is stopped.
+-- The result of a step on an object: the message stays there, the object ends with a reply, or the message is stopped.
 data Step : Type 0 where
   stays : List Activation → Effect → Step
   over : ℕ → Step
@@ -29,17 +29,17 @@ module _ (p : Program) (m : Message) (o : ℕ) (n : ℕ) where
   abbrev at : List Activation → List ℕ → ℕ → Run
   at stack os sum = record { message = m; objects = o ∷ os; activations = stack; steps = n; sum = sum }
 
-  -- What the step comes to there.
+  -- The outcome of the step there.
   abbrev made : List Activation → List ℕ → ℕ → Step → Outcome
   made stack os sum (stays after e) = onward (at stack os sum) after e
   made stack os sum (over v) = objectEnds p (at stack os sum) os v
   made stack os sum halts = stops
 
-  -- An outcome is that of one step, whichever objects are to come and whatever the sum.
+  -- The outcome is that of one step, whatever objects are to come and whatever the sum.
   abbrev Alike : List Activation → (List ℕ → ℕ → Outcome) → Type 0
   Alike stack outcome = (x : Step) × ((os : List ℕ) (sum : ℕ) → outcome os sum ≡ made stack os sum x)
 
-  -- Each rule of a step has such an outcome.
+  -- The outcome of each rule of a step is of this kind.
   called-alike : (stack : List Activation) (a : Activation) (below : List Activation) (body : List Statement) (v : ℕ)
       → Alike stack (λ os sum. called (at stack os sum) a below body v)
   called-alike stack a below body v = go (leb 8 (length (a ∷ below)))
@@ -77,7 +77,7 @@ module _ (p : Program) (m : Message) (o : ℕ) (n : ℕ) where
   InTime (over v) = Unit {0}
   InTime halts = Unit {0}
 
-  -- So has the limit of an object's steps.
+  -- So is the outcome under the limit on an object's steps.
   limited-alike : (stack : List Activation) (x : Step)
       → (y : Step) × ((os : List ℕ) (sum : ℕ) → limited (made stack os sum x) ≡ made stack os sum y) × InTime y
   limited-alike stack (stays after e) = go (ltb (suc n) 1024) refl
@@ -93,7 +93,7 @@ module _ (p : Program) (m : Message) (o : ℕ) (n : ℕ) where
       next (q ∷ qs) sum = refl
   limited-alike stack halts = (halts, λ os sum. refl, tt)
 
-  -- A turn is that of one step.
+  -- The outcome of `turn` is of this kind.
   turn-alike : (fields : List ℕ) (stack : List Activation)
       → (x : Step) × ((os : List ℕ) (sum : ℕ) → turn p (at stack os sum) fields ≡ made stack os sum x) × InTime x
   unfolding turn
@@ -102,54 +102,54 @@ module _ (p : Program) (m : Message) (o : ℕ) (n : ℕ) where
       let (y, d, t) = limited-alike stack x in
       (y, λ os sum. ap limited (e os sum) ∙ d os sum, t)
 
--- ---- the course from a run on
+-- ---- the rest of the course from a run on
 
--- The object it is on, to its end; then the others.
+-- The current object to its end, then the others.
 abbrev rest : Program → Run → List ℕ → List ℕ → Ran
 rest p r [] fields = some (r .sum, fields)
 rest p r (o ∷ os) fields =
     thenRun (finished p (1024 - r .steps) (at p (r .message) o (r .steps) (r .activations) [] 0) fields)
     (λ v after. objectByObject p (r .message) os (plusReply (r .sum) v) after)
 
--- It is the course's own run where the message comes to its next objects.
+-- Where the message comes to its next objects, this is the course's own run.
 rest-visit : (p : Program) (m : Message) (os : List ℕ) (sum : ℕ) (fields : List ℕ)
     → rest p (visit p m os sum) os fields ≡ objectByObject p m os sum fields
 unfolding objectByObject
 rest-visit p m [] sum fields = refl
 rest-visit p m (o ∷ os) sum fields = refl
 
--- A turn leaves what the course gives.
+-- A step does not change what the course gives.
 abbrev Keeps : Program → Run → List ℕ → Outcome → Type 0
 Keeps p r fields (goes r′ e) = (rest p r (r .objects) fields ≡ rest p r′ (r′ .objects) (act e fields)) × (r′ .steps < 1024)
 Keeps p r fields (ends v e) = rest p r (r .objects) fields ≡ some (v, act e fields)
 Keeps p r fields stops = Unit {0}
 
--- The course sums replies that were reduced already.
+-- The course adds replies that have already been reduced.
 sum-reply : (sum v : ℕ) → plusReply sum (plusReply 0 v) ≡ plusReply sum v
 sum-reply sum v = omega arith
 
--- With time left, the course takes the same turn.
+-- With steps left, the course takes the same step.
 finished-turn : (p : Program) (n : ℕ) (r : Run) (fields : List ℕ) → n < 1024
     → finished p (1024 - n) r fields ≡ goOn (turn p r fields) fields (λ next after. finished p (1024 - suc n) next after)
 unfolding finished
 finished-turn p n r fields h = let e : 1024 - n ≡ suc (1024 - suc n) = omega arith in ap (λ k. finished p k r fields) e
 
 module _ (p : Program) (m : Message) (o : ℕ) (n : ℕ) (h : n < 1024) (fields : List ℕ) (stack : List Activation) where
-  -- The course's run of the object alone takes the step too.
+  -- The course's run of the object takes the step too.
   finished-made : (x : Step) → turn p (at p m o n stack [] 0) fields ≡ made p m o n stack [] 0 x
       → finished p (1024 - n) (at p m o n stack [] 0) fields
       ≡ goOn (made p m o n stack [] 0 x) fields (λ next after. finished p (1024 - suc n) next after)
   finished-made x q =
       finished-turn p n (at p m o n stack [] 0) fields h ∙ ap (λ y. goOn y fields (λ next after. finished p (1024 - suc n) next after)) q
 
-  -- Where the object ends, the others are left.
+  -- Where the object ends, the other objects are left.
   object-over : (os : List ℕ) (sum v : ℕ) → turn p (at p m o n stack [] 0) fields ≡ made p m o n stack [] 0 (over v)
       → rest p (at p m o n stack os sum) (o ∷ os) fields ≡ objectByObject p m os (plusReply sum v) fields
   object-over os sum v q =
       ap (λ x. thenRun x (λ v after. objectByObject p m os (plusReply sum v) after)) (finished-made (over v) q)
       ∙ ap (λ s. objectByObject p m os s fields) (sum-reply sum v)
 
-  -- So a step leaves what the course gives.
+  -- So a step does not change what the course gives.
   keeps-made : (os : List ℕ) (sum : ℕ) (x : Step) → turn p (at p m o n stack [] 0) fields ≡ made p m o n stack [] 0 x → InTime p m o n x
       → Keeps p (at p m o n stack os sum) fields (made p m o n stack os sum x)
   unfolding objectByObject
@@ -159,7 +159,7 @@ module _ (p : Program) (m : Message) (o : ℕ) (n : ℕ) (h : n < 1024) (fields 
   keeps-made (k ∷ ks) sum (over v) q t = (object-over (k ∷ ks) sum v q ∙ sym (rest-visit p m (k ∷ ks) (plusReply sum v) fields), omega arith)
   keeps-made os sum halts q t = tt
 
--- Each turn does.
+-- No step of `turn` changes it.
 turn-keeps : (p : Program) (r : Run) (fields : List ℕ) → r .steps < 1024 → Keeps p r fields (turn p r fields)
 unfolding turn
 turn-keeps p r fields h = each (r .objects)
@@ -174,9 +174,9 @@ turn-keeps p r fields h = each (r .objects)
         subst (Keeps p (on (o ∷ os)) fields) (sym (e os (r .sum)))
         (keeps-made p (r .message) o (r .steps) h fields (r .activations) os (r .sum) x (e [] 0) t)
 
--- ---- the turns of a message
+-- ---- the steps of a message
 
--- At every moment what is left is what the course gives from the begin on.
+-- At every moment the rest of the course gives what it gives from the start.
 part-rest : (p : Program) (m : Message) {first : List ℕ} {r : Run} {fields : List ℕ} → Part (service p) m first r fields
     → (alone p m first ≡ rest p r (r .objects) fields) × (r .steps < 1024)
 unfolding alone
@@ -186,7 +186,7 @@ part-rest p m (more {r = r} {G = fields} r′ e t q) =
     let (c, k) = subst (Keeps p r fields) q (turn-keeps p r fields h) in
     (d ∙ c, k)
 
--- Where the turns of a message from `first` on end with an answer, the course's run from `first` has that answer and those fields.
+-- Where the steps of a message from `first` on end with an answer, the course's run from `first` has that answer and those fields.
 pub alone-end : (p : Program) (m : Message) (first fields : List ℕ) (r : Run) (v : ℕ) (e : Effect) → Part (service p) m first r fields
     → turn p r fields ≡ ends v e → alone p m first ≡ some (v, act e fields)
 alone-end p m first fields r v e t q =

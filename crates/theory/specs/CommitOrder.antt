@@ -1,5 +1,5 @@
--- Demand 3, for any text: the machine against the plain course, over whole lists of calls; and what holds at every moment of
--- a list. Nothing is assumed: not that the text was accepted, and nothing of the calls.
+-- Demand 3, for any text: the machine against the plain course, over whole lists of calls; and what holds at every moment of a
+-- list. Nothing is assumed of the text, not even that it was accepted, and nothing of the calls.
 use Prim.Native.Nat.{ℕ, _<_}
 use mathlib.Core.Path.{_≡_, refl, ap, subst}
 use mathlib.Core.List.{List, [], _∷_}
@@ -9,13 +9,13 @@ use Rattle.model.specs.Service.{Service, Answer, World, closed, opened, Transac
 use Rattle.model.specs.Service as Calls
 use Rattle.model.specs.Machine.{Call, service, playedBy}
 use Rattle.model.specs.Course.{course}
-use Rattle.twophase.specs.Base.{All}
+use Rattle.laws.specs.Basics.{All}
 use Rattle.twophase.specs.Claims.{Right, both, putBackAll, Serial, Moment}
 use Rattle.twophase.specs.Theorem as Theory
 use Rattle.theory.specs.VectorLaws.{Compiled, program-compiled}
 use Rattle.theory.specs.ServiceLaws.{laws}
 
--- Machine and course side by side are the machine's list of calls, and the course fed its answers.
+-- Machine and course run side by side are the machine's list of calls, and the course fed its answers.
 both-is : (𝓢 : Service) (w : World 𝓢) (x : Course 𝓢) (cs : List (Calls.Call (𝓢 .Request)))
     → both 𝓢 w x cs ≡ (runCalls 𝓢 w cs .1, fedAll 𝓢 x cs (runCalls 𝓢 w cs .0))
 unfolding runCalls fedAll
@@ -37,8 +37,8 @@ module _ (p : Program) (values : List ℕ) (cs : List Call) where
   abbrev pub NothingOpen : Type 0
   NothingOpen = (s : ℕ) → s < 8 → left .slots s ≡ closed
 
-  -- What demand 3 says of such a list: it "ends with the fields, and gave committed transactions the answers, of the plain
-  -- course"; "and from then on the machine behaves as after a new start on those fields".
+  -- Demand 3 for such a list: it "ends with the fields, and gave committed transactions the answers, of the plain course"; "and
+  -- from then on the machine behaves as after a new start on those fields".
   pub record SameAsPlainCourse : Type 0 where
     pub same-fields : left .fields ≡ plain .fields
     pub same-answers : All Right (plain .compared)
@@ -68,8 +68,8 @@ module _ (p : Program) (values : List ℕ) (cs : List Call) where
         as-new = λ more. ap (λ (w : World (service p)). runCalls (service p) w more) (s .as-new);
       }
 
-  -- What holds after any list of calls, whatever it leaves open: undoing every open transaction gives the course's fields,
-  -- and what an open transaction got so far it would get alone on them.
+  -- What holds after any list of calls, whatever it leaves open: undoing every open transaction gives the course's fields, and
+  -- the answers so far of an open transaction are those that it would get alone on them.
   pub record AtThisMoment : Type 0 where
     pub undone : putBackAll (service p) 8 (left .slots) (left .fields) ≡ plain .fields
     pub got-alone : (s : ℕ) (t : Transaction (service p)) → left .slots s ≡ opened t

@@ -39,7 +39,7 @@ unfoldable pub endless : List ℕ
 unfolding text
 endless = text ("class a" ∷ "method m" ∷ "send m to self arg" ∷ "end" ∷ "object o a" ∷ [])
 
--- A diamond: d takes m from its first parent b, which has it from a, although c writes it too.
+-- A diamond: d takes m from its first parent b, which inherits it from a, although c defines it too.
 unfoldable pub diamond : List ℕ
 unfolding text
 diamond = text
@@ -48,7 +48,7 @@ diamond = text
     "class c : a" ∷ "method m" ∷ "set y 1" ∷ "end" ∷
     "class d : b c" ∷ "object o d" ∷ [])
 
--- A circle of calls, and a method that leads into it.
+-- A cycle of calls, and a method that leads into it.
 unfoldable pub circle : List ℕ
 unfolding text
 circle = text
@@ -58,7 +58,8 @@ circle = text
     "method r" ∷ "when 0 set z 0" ∷ "send p to self arg" ∷ "end" ∷
     "method s" ∷ "send q to self got" ∷ "end" ∷ [])
 
--- A body behind a prefix calls plainly, and an inherited body calls with a prefix: the plain call is the object's class's.
+-- A body called with a prefix makes a plain call, and an inherited body makes a prefixed one: the plain call resolves in the
+-- object's class.
 unfoldable pub prefixed : List ℕ
 unfolding text
 prefixed = text
@@ -66,7 +67,7 @@ prefixed = text
     "class b : a" ∷ "method n" ∷ "set y 1" ∷ "end" ∷ "method m" ∷ "send a.m to self arg" ∷ "end" ∷
     "class c : b" ∷ "field z" ∷ "method n" ∷ "set z 1" ∷ "end" ∷ [])
 
--- Two classes whose objects stand mixed; g has another body in each.
+-- Two classes whose objects alternate in the text; g has another body in each.
 unfoldable pub mixed : List ℕ
 unfolding text
 mixed = text
@@ -75,7 +76,7 @@ mixed = text
     "class c" ∷ "method g" ∷ "end" ∷
     "object o1 a 5" ∷ "object o2 b 7" ∷ "object o3 a 4294967295" ∷ [])
 
--- A method of 1,024 steps on an object, and one of a step more.
+-- A method of 1,024 steps on an object, and one of one more step.
 unfoldable pub long : List ℕ
 unfolding text
 long =

@@ -1,6 +1,6 @@
--- The examples: one table, each row an input and what it must give, and one theorem, that no row fails. The starred examples
--- of document 01 come first, then edges of its rules. Its examples without a star are run by the tests of `host/`.
-use Prim.Native.Nat.{ℕ}
+-- The examples: one table, each row an input and the expected result, and one theorem, that no row fails. The starred examples of
+-- document 01 come first, then edges of its rules. Its examples without a star are run by the tests of `host/`.
+use Prim.Native.Nat.{ℕ, pred}
 use Prim.Native.String.{String}
 use mathlib.Core.Path.{_≡_, refl}
 use mathlib.Core.Bool.{Bool, true, false, _&&_}
@@ -8,10 +8,11 @@ use mathlib.Core.Option.{Option, none, some}
 use mathlib.Core.List.{List, [], _∷_, _++_, map, flatMap}
 use lib.ListN.{length, take, replicate}
 use lib.Dec.{eqb}
+use Rattle.layout.specs.Layout.{stateWords}
 use Rattle.model.specs.Base.{bytes, same, every}
 use Rattle.model.specs.Text.{pieces, words}
 use Rattle.model.specs.Expression.{Parsed, parsed, unread, readLevels, expression, valueOf}
-use Rattle.model.specs.Library.{byFirstParent}
+use Rattle.model.specs.Library.{asRecorded}
 use Rattle.model.specs.Read.{verdict, library}
 use Rattle.model.specs.Vector.{joinedVector}
 use Rattle.model.specs.Told.{numberOf}
@@ -22,7 +23,7 @@ use Rattle.model.specs.Machine.{object, class, domain, to, Call, begin, send, s
 use Rattle.model.specs.Course.{Compared, course}
 use Rattle.theory.specs.ExampleTexts.{text, lanes, figure1, endless, diamond, circle, prefixed, mixed, long}
 
--- What is put in, and what must come out.
+-- An input and the expected result.
 pub data Row : Type 0 where
   -- the number and the line of a text's fault
   reads : List ℕ → ℕ → ℕ → Row
@@ -32,27 +33,27 @@ pub data Row : Type 0 where
   direct : List ℕ → ℕ → String → String → Row
   -- the length of a text's image, and its pairs
   pairs : List ℕ → ℕ → List ℕ → Row
-  -- a statement of a text by its count, and the number of a look-up
+  -- a statement of a text by its count; the number of a refused look-up
   finds : List ℕ → ℕ → String → Row
   misses : List ℕ → ℕ → ℕ → Row
-  -- the number that compiling or printing into a buffer of that many bytes gives, starting values into a list of that many, and a
-  -- start on a list of that many in a state of so many words
+  -- the number answered by compiling or printing into a buffer of that many bytes, by writing starting values into a list of that
+  -- many, and by a start on a list of that many in a state of so many words
   compilesInto : List ℕ → ℕ → ℕ → Row
   printsInto : List ℕ → ℕ → ℕ → Row
   counts : List ℕ → ℕ → ℕ → Row
   startsIn : List ℕ → ℕ → ℕ → ℕ → Row
-  -- what a list holds after the starting values were written into it, and a buffer after compiling or printing into it
+  -- the contents of a list after the starting values are written into it, and of a buffer after compiling or printing into it
   starts : List ℕ → List ℕ → List ℕ → Row
   leaves : List ℕ → List ℕ → List ℕ → Row
   leavesPrinted : List ℕ → List ℕ → List ℕ → Row
-  -- the value of an expression without fields, `arg` being 7 and `got` 9
+  -- the value of an expression without fields, with `arg` 7 and `got` 9
   values : String → ℕ → Row
-  -- the answers of a list of calls made after a start on the text's starting values, and the fields in the end
+  -- the answers of a list of calls made after a start on the text's starting values, and the final fields
   plays : List ℕ → List Call → List Answer → List ℕ → Row
   -- the same list leaves nothing open, and the plain course ends with the same fields and answers
   agrees : List ℕ → List Call → Row
 
--- ---- how a row is tried
+-- ---- how a row is tested
 
 abbrev pub sameLists : List (List ℕ) → List (List ℕ) → Bool
 sameLists [] [] = true
@@ -79,12 +80,12 @@ abbrev pub given : List ℕ → List Call → List Answer × List ℕ
 given t cs = played t (startingValues (library t)) cs
 
 unfoldable pub passes : Row → Bool
-unfolding same every pieces readLevels valueOf verdict library printed printAnswer printedInto image startingValues startingValuesInto statementPart statementAnswer compileAnswer compiledInto valuesAnswer startAnswer joinedVector byFirstParent played course
+unfolding same every pieces readLevels valueOf verdict library printed printAnswer printedInto image startingValues startingValuesInto statementPart statementAnswer compileAnswer compiledInto valuesAnswer startAnswer joinedVector asRecorded played course
 passes (reads t n l) = let v = verdict t in eqb (v .0) n && eqb (v .1) l
 passes (prints t s) = same (printed t) s
 passes (direct t c m s) =
     let l = library t in
-    same (letters (joinedVector l (byFirstParent l) c (record { class = c; method = bytes m } ∷ []))) (bytes s)
+    same (letters (joinedVector l (asRecorded l) c (record { class = c; method = bytes m } ∷ []))) (bytes s)
 passes (pairs t n ps) = eqb (length (image t)) n && same (take 24 (image t)) (flatMap u32Bytes ps)
 passes (finds t k s) = same (statementPart t k) (bytes s)
 passes (misses t k n) = eqb (numberOf (statementAnswer t k)) n && same (statementPart t k) []
@@ -134,7 +135,7 @@ starred =
     plays lanes (begin 1 ∷ send 1 (to (object 0) 1 0) ∷ begin 0 ∷ send 0 (to (class 1) 0 0) ∷ []) (done ∷ done ∷ done ∷ done ∷ []) (0 ∷ 0 ∷ 0 ∷ []) ∷
     plays endless (begin 0 ∷ send 0 (to (object 0) 0 0) ∷ replicate 8 (step 0)) (done ∷ done ∷ replicate 7 going ++ (stopped ∷ [])) [] ∷ []
 
--- The builder's numbers, and what a refusal leaves.
+-- The builder's numbers, and the buffers after a refusal.
 abbrev lent : List Row
 lent =
     finds lanes 3 "set focus arg" ∷
@@ -144,18 +145,18 @@ lent =
     printsInto (bytes "class") 12 21 ∷
     leavesPrinted (bytes "class") (replicate 13 9) (text ("refused 12 1" ∷ [])) ∷
     counts lanes 2 22 ∷
-    startsIn lanes 2 26183 21 ∷
-    startsIn lanes 2 26184 22 ∷
+    startsIn lanes 2 (pred stateWords) 21 ∷
+    startsIn lanes 2 stateWords 22 ∷
     starts mixed (replicate 4 9) (5 ∷ 7 ∷ 0 ∷ 4294967295 ∷ []) ∷ []
 
--- Resolution, circles, prefixes.
+-- Resolution, cycles, prefixes.
 abbrev vectors : List Row
 vectors =
     prints diamond (text ("a m WN n" ∷ "b m WNN n" ∷ "c m NW n" ∷ "d m WNN n" ∷ [])) ∷
     prints circle (text ("a p WRW nnnn" ∷ "a q WRW nnnn" ∷ "a r WRW nnnn" ∷ "a s WRW nnnn" ∷ [])) ∷
     prints prefixed (text ("a m WN nn" ∷ "a n WN nn" ∷ "b m NW nn" ∷ "b n NW nn" ∷ "c m NNW nn" ∷ "c n NNW nn" ∷ [])) ∷ []
 
--- In `mixed` the methods of a and b are g 0 and h 1; the objects are a's, b's and a's again.
+-- In `mixed` the methods of a and b are g 0 and h 1; the objects are one of a, one of b and another of a.
 abbrev machine : List Row
 machine =
     plays mixed (begin 0 ∷ send 0 (to (domain 0) 0 3) ∷ replicate 12 (step 0))
@@ -167,7 +168,7 @@ machine =
     (done ∷ done ∷ going ∷ going ∷ done ∷ held 5 ∷ done ∷ going ∷ done ∷ done ∷ []) (5 ∷ 7 ∷ 0 ∷ 4294967295 ∷ []) ∷
     []
 
--- A message of 1,024 steps, and one of a step more.
+-- A message of 1,024 steps, and one of one more step.
 abbrev stops : List Row
 stops =
     plays long (begin 0 ∷ send 0 (to (object 0) 1 0) ∷ replicate 1024 (step 0)) (done ∷ done ∷ replicate 1023 going ++ (answer 0 ∷ [])) (961 ∷ []) ∷

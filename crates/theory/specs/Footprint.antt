@@ -1,5 +1,5 @@
--- Where a message may look and set: which effects it may have, which fields it finds alike, which messages are free of each
--- other. All goes by the vector of its method in the class of each object that it visits.
+-- What a message may read and set: which effects it may have, which fields it cannot distinguish, which messages are free of each
+-- other. All is decided by the vector of its method in the class of each object that it visits.
 use Prim.Native.Nat.{ℕ, _+_, _<_}
 use mathlib.Core.Path.{_≡_}
 use mathlib.Core.Bool.{true, false}
@@ -20,7 +20,7 @@ module _ (p : Program) where
   abbrev pub modeAt : Message → ℕ → ℕ → Mode
   modeAt m o k = getD (vectorOf p (classOf p o) (m .method)) k Null
 
-  -- The message may set the value at a place: it is a visited object's field that its vector changes.
+  -- The message may set the value at a place: the place is a field of a visited object that the vector changes.
   pub record Sets (m : Message) (place : ℕ) : Type 0 where
     pub on : ℕ
     pub at : ℕ
@@ -34,7 +34,7 @@ module _ (p : Program) where
   May m idle = Unit {0}
   May m (store k v) = Sets m k
 
-  -- The fields are alike wherever the message looks.
+  -- The fields agree wherever the message may read.
   pub record Agree (m : Message) (fields others : List ℕ) : Type 0 where
     pub long : length fields ≡ length others
     pub alike : (o k : ℕ) → Visits m o → k < sizeOf p o → depends (modeAt m o k) ≡ true

@@ -1,9 +1,6 @@
 pub mod ExampleTexts
 pub mod Examples
-pub mod ListLaws
-pub mod Lookup
 pub mod Reachability
-pub mod ModeLaws
 pub mod Lawful
 pub mod VectorLaws
 pub mod Places

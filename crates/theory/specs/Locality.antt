@@ -1,4 +1,4 @@
--- Free messages do not meet: their effects commute, and neither sees the other's.
+-- Free messages do not interfere: their effects commute, and neither sees the other's.
 use Prim.Native.Nat.{ℕ, _+_, _<_}
 use native.Mathlib.Omega.{arith}
 use native.Mathlib.Decide.{decLt, ℕ-discrete}
@@ -11,11 +11,11 @@ use lib.Seq.{getD-set-same, getD-set-other, set-comm}
 use Rattle.model.specs.Mode.{depends, changes}
 use Rattle.model.specs.Vector.{Program}
 use Rattle.model.specs.Message.{Message, sizeOf, baseOf, Effect, idle, store, act}
-use Rattle.theory.specs.ModeLaws.{changes-depends, clash-sym, depends-clashes}
+use Rattle.laws.specs.Modes.{changes-depends, clash-sym, depends-clashes}
 use Rattle.theory.specs.Places.{one-object, one-field}
 use Rattle.theory.specs.Footprint.{Visits, modeAt, Sets, May, Agree, Free}
 
--- Lists of one length, alike at a place, are so after one value is set.
+-- Lists of one length that agree at a place still do after the same value is set in both.
 set-alike : (fields others : List ℕ) (k v i : ℕ) → length fields ≡ length others → getD fields i 0 ≡ getD others i 0
     → getD (set fields k v) i 0 ≡ getD (set others k v) i 0
 set-alike fields others k v i long e = go (ℕ-discrete i k) (decLt i (length fields))
@@ -30,7 +30,7 @@ set-alike fields others k v i long e = go (ℕ-discrete i k) (decLt i (length fi
         List·getD-eq-default (set fields k v) 0 (omega arith) ∙ sym (List·getD-eq-default (set others k v) 0 (omega arith))
 
 module _ (p : Program) (m : Message) where
-  -- Being alike where the message looks is an equivalence.
+  -- Agreement wherever the message may read is an equivalence.
   pub agree-refl : (fields : List ℕ) → Agree p m fields fields
   agree-refl fields = record { long = refl; alike = λ o k a h d. refl }
 
@@ -40,7 +40,7 @@ module _ (p : Program) (m : Message) where
   pub agree-trans : (fields others last : List ℕ) → Agree p m fields others → Agree p m others last → Agree p m fields last
   agree-trans fields others last x y = record { long = x .long ∙ y .long; alike = λ o k a h d. x .alike o k a h d ∙ y .alike o k a h d }
 
-  -- Fields stay alike under one effect on both.
+  -- The same effect on both preserves agreement.
   pub agree-act : (e : Effect) (fields others : List ℕ) → Agree p m fields others → Agree p m (act e fields) (act e others)
   agree-act idle fields others x = x
   agree-act (store k v) fields others x = record {
@@ -49,11 +49,11 @@ module _ (p : Program) (m : Message) where
   }
 
 module _ (p : Program) (m n : Message) where
-  -- Each is free of the other.
+  -- Freedom is symmetric.
   pub free-sym : Free p m n → Free p n m
   free-sym f = record { apart = λ o k a b h. clash-sym (modeAt p n o k) (modeAt p m o k) ∙ f .apart o k b a h }
 
-  -- Where one looks the other does not set.
+  -- Where one message may read, the other does not set.
   free-elsewhere : Free p m n → (place o k : ℕ) → Sets p n place → Visits p m o → k < sizeOf p o → depends (modeAt p m o k) ≡ true
       → baseOf p o + k ≡ place → ⊥
   free-elsewhere f place o k s visits h d e =
@@ -71,7 +71,7 @@ module _ (p : Program) (m n : Message) where
       changed : changes (modeAt p n o k) ≡ true
       changed = subst₂ (λ x y. changes (modeAt p n x y) ≡ true) (sym same-object) (sym same-field) (s .changing)
 
-  -- The two set at different places.
+  -- The two set different places.
   pub free-apart : Free p m n → (j k : ℕ) → Sets p m j → Sets p n k → j ≢ k
   free-apart f j k s t e =
       free-elsewhere f k (s .on) (s .at) t (s .visits) (s .inside) (changes-depends (modeAt p m (s .on) (s .at)) (s .changing)) (sym (s .there) ∙ e)

@@ -1,4 +1,4 @@
--- Messages whose locks do not clash are free of each other: at an object that both visit their methods commute in its class.
+-- Messages whose locks do not clash are free of each other: for each object that both visit, their methods commute in its class.
 use Prim.Native.Nat.{ℕ, zero, suc, _<_}
 use mathlib.Core.Path.{_≡_, refl, sym, ap, _∙_}
 use mathlib.Core.Bool.{Bool, true, false, not, _&&_, _||_, true≢false}
@@ -11,9 +11,9 @@ use Rattle.model.specs.Mode.{Null, clash}
 use Rattle.model.specs.Vector.{Program, Vector, commute, vectorOf, commuteIn}
 use Rattle.model.specs.Message.{Target, object, class, domain, Message, classOf, inDomain, inTarget, visited, sizeOf}
 use Rattle.model.specs.Lock.{Lock, onObject, onClass, domainOf, locksFor, lockClash, locksClash}
-use Rattle.theory.specs.ListLaws.{eqb-true, eqb-same, both-left, both-right, any-none, none-any, in-keep, keep-in, in-upto, map-in}
-use Rattle.theory.specs.ModeLaws.{null-apart, apart-null}
-use Rattle.theory.specs.Lookup.{class-with-field}
+use Rattle.laws.specs.Lists.{eqb-true, eqb-same, both-left, both-right, any-none, none-any, in-keep, keep-in, in-upto, map-in}
+use Rattle.laws.specs.Modes.{null-apart, apart-null}
+use Rattle.laws.specs.Lookup.{class-with-field}
 use Rattle.theory.specs.Footprint.{Visits, Free}
 
 -- Vectors that commute clash at no field.
@@ -28,13 +28,13 @@ commute-apart (v ∷ vs) (w ∷ ws) e zero = unless (clash v w) (both-left (not 
     unless false q = refl
 commute-apart (v ∷ vs) (w ∷ ws) e (suc k) = commute-apart vs ws (both-right (not (clash v w)) (commute vs ws) e) k
 
--- A test whose first part passes fails by its second.
+-- A conjunction whose first part holds fails by its second.
 commutes : (a b : Bool) → a ≡ true → a && not b ≡ false → b ≡ true
 commutes a true e q = refl
 commutes a false e q = absurd (true≢false (sym (rw e refl) ∙ q))
 
 module _ (p : Program) where
-  -- Some locks cover a method on an object: as one object, or with its whole class.
+  -- The locks cover a method on an object: by a lock on the object, or by one on its whole class.
   pub data Cover (ks : List Lock) (o : ℕ) (m : Name) : Type 0 where
     one : List·Memᴰ (onObject o m) ks → List·Memᴰ (onClass (classOf p o) m false) ks → Cover ks o m
     whole : List·Memᴰ (onClass (classOf p o) m true) ks → Cover ks o m
@@ -67,7 +67,7 @@ module _ (p : Program) where
   meet ks hs o m n (whole x) (one z w) apart = class-meet (classOf p o) m n true false refl (apart _ _ x w)
   meet ks hs o m n (whole x) (whole z) apart = class-meet (classOf p o) m n true true refl (apart _ _ x z)
 
-  -- No locks of two lists clash where no two locks do.
+  -- If two lists of locks do not clash, no two of their locks do.
   apart-all : (ks hs : List Lock) → locksClash p ks hs ≡ false → (a b : Lock) → List·Memᴰ a ks → List·Memᴰ b hs → lockClash p a b ≡ false
   unfolding locksClash
   apart-all ks hs e a b x y = any-none (lockClash p a) y (any-none (λ k. any (lockClash p k) hs) x e)
@@ -87,7 +87,7 @@ module _ (p : Program) where
   apart-commute m n o k v w h f =
       meet (locksOf m) (locksOf n) o (m .method) (n .method) (cover (m .target) (m .method) o k v h) (cover (n .target) (n .method) o k w h) f
 
-  -- A send that clashes with none of the locks held, another message's among them, is free of that message.
+  -- A send that clashes with none of the held locks, those of another message among them, is free of that message.
   pub free-lock : (m n : Message) (held : List Lock) → locksClash p (locksOf m) (locksOf n ++ held) ≡ false
       → (locksClash p (locksOf m) held ≡ false) × Free p m n
   unfolding commuteIn

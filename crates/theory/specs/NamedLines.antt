@@ -1,5 +1,5 @@
--- Whatever the text, each class of its library knows the names in the bodies that it has. This is kept line by line, the last class
--- being counted with the methods that the lines below still write in it.
+-- In any text, each class of its library knows the names in the bodies that it has. Each line preserves this, where the last
+-- class is counted with the methods that the lines below still define in it.
 use Prim.Native.Nat.{ℕ, suc, _+_, _≤_, _<_}
 use native.Mathlib.Omega.{arith}
 use native.Mathlib.Numerals.{add-one}
@@ -17,8 +17,8 @@ use Rattle.model.specs.Form.{Action, assign, send, sendPrefixed, reply, Stateme
 use Rattle.model.specs.Library.{Member, Class, Placed, Library, noMember, noClass, among, classNumber, isClass, className, classAt, lastNumber, lastClass, newClass, withField, withMethod, withStatement, oneMore, statementsOf, add}
 use Rattle.model.specs.Fault.{strange, strangeGuard, laterBy, later, ownMethod, methodOf, unknownIn, noAncestor, statementsSoFar, statementFault, faultOf}
 use Rattle.model.specs.Read.{library}
-use Rattle.twophase.specs.Base.{All, all-map, all-append}
-use Rattle.theory.specs.ListLaws.{both-left, both-right, alter-length, alter-there, alter-each, append-each, alter-last}
+use Rattle.laws.specs.Basics.{All, all-map, all-append}
+use Rattle.laws.specs.Lists.{both-left, both-right, alter-length, alter-there, alter-each, append-each, alter-last}
 use Rattle.theory.specs.Pass.{InBody, in-body, no-fault, of-text}
 use Rattle.theory.specs.Accepted.{or-false, Within, all-below, all-both, all-alter, class-good, inherited-all, written-all, Sound, add-sound}
 use Rattle.theory.specs.Copies.{class-there, written-there}
@@ -82,7 +82,7 @@ module _ (h k : Class) (w : Wider h k) where
 -- ---- a statement without a fault
 
 module _ (l : Library) (below : List Line) (heirs : Heirs (l .classes)) where
-  -- The class that is being read, with the methods that it is still to write.
+  -- The class being read, with the methods that it has yet to define.
   abbrev writer : Class
   writer = withMethods (later below) (lastClass l)
 
@@ -93,7 +93,7 @@ module _ (l : Library) (below : List Line) (heirs : Heirs (l .classes)) where
   unfolding ownMethod
   own-method m e = with-among (later below) (lastClass l) m ∙ e
 
-  -- An ancestor's methods are written above.
+  -- An ancestor's methods are defined above.
   ancestor-method : (c m : Name) → lastClass l .ancestors (classNumber l c) ≡ true → methodOf l below c m ≡ true → among (className l c .methods) m ≡ true
   unfolding methodOf
   ancestor-method c m a e =
@@ -103,7 +103,7 @@ module _ (l : Library) (below : List Line) (heirs : Heirs (l .classes)) where
   unstrange : (e : Expression) → strange (lastClass l) e ≡ false → not (strange writer e) ≡ true
   unstrange e q = rw (strange-still (lastClass l) writer wide e q)
 
-  -- It knows the names of a statement without a fault.
+  -- The class being read knows the names of a statement without a fault.
   action-known : (a : Action) → unknownIn l below a ≡ false → noAncestor l a ≡ false → namedAction l writer a ≡ true
   unfolding unknownIn noAncestor
   action-known (assign f e) u n =
@@ -128,7 +128,7 @@ module _ (l : Library) (below : List Line) (heirs : Heirs (l .classes)) where
       let t = or-false (strangeGuard (lastClass l) (s .guard)) (unknownIn l below (s .action)) (p .0) in
       rw (guard-still (lastClass l) writer wide (s .guard) (t .0), action-known (s .action) (t .1) (no-fault (noAncestor l (s .action)) 15 many (p .1) .0))
 
-  -- So does the last class, so counted.
+  -- So does the last class, counted with the methods yet to be defined.
   statement-ahead : (s : Statement) → statementFault l below s ≡ 0 → lastNumber l < length (l .classes)
       → named (awaiting (later below) l) (classAt (awaiting (later below) l) (lastNumber l)) s ≡ true
   statement-ahead s f h =
@@ -137,15 +137,16 @@ module _ (l : Library) (below : List Line) (heirs : Heirs (l .classes)) where
 
 -- ---- bodies
 
--- Class c knows the names in the body of m, with the methods ns that the last class is still to write.
+-- Class c knows the names in the body of m, where ns are the methods that the last class has yet to define.
 abbrev Body : List Name → Library → ℕ → Member → Type 0
 Body ns l c m = NamedBody (awaiting ns l) (classAt (awaiting ns l) c) (statementsOf l m)
 
--- Each class knows them in the bodies that it has.
+-- Each class knows the names in the bodies that it has.
 abbrev Bodies : List Name → Library → Type 0
 Bodies ns l = (c : ℕ) → All (Body ns l c) (classAt l c .methods)
 
--- A part of a list stays when an element is added behind the list, and a part that reaches the end may take the element too.
+-- A part of a list is unchanged when an element is appended to the list, and a part that reaches the end may be extended by the
+-- element.
 module _ {A : Type 0} (xs : List A) (x : A) (i n : ℕ) where
   part-kept : i + n ≤ length xs → take n (drop i (xs ++ (x ∷ []))) ≡ take n (drop i xs)
   part-kept h = ap (take n) (drop-append-le i xs (x ∷ []) (omega arith)) ∙ take-append-le n (drop i xs) (x ∷ []) (simp length-drop (omega arith))
@@ -156,7 +157,7 @@ module _ {A : Type 0} (xs : List A) (x : A) (i n : ℕ) where
       ∙ take-all (suc n) (drop i xs ++ (x ∷ [])) (simp (length-append, length-drop) (omega arith))
       ∙ ap (λ (ys : List A). ys ++ (x ∷ [])) (sym (take-all n (drop i xs) (simp length-drop (omega arith))))
 
--- With one statement more, a body that has ended keeps its statements, and the one that reaches the end takes the new one.
+-- With one more statement, a body that has ended keeps its statements, and the one that reaches the end gets the new one.
 module _ (l k : Library) (x : Placed) (e : k .statements ≡ l .statements ++ (x ∷ [])) (m : Member) where
   statements-kept : Within (length (l .statements)) m → statementsOf k m ≡ statementsOf l m
   unfolding statementsOf
@@ -190,9 +191,9 @@ module _ (l k : Library) (ns os : List Name) (grown : Grown (ahead ns (l .classe
       all-map (λ m. Within n m × Body ns l c m) (Body os k c) ms (λ m p. body-passed c c (still-wider c) m (old m (p .0)) (p .1))
       (all-both (Within n) (Body ns l c) ms (class-good l n sound c .within) (b c))
 
--- ---- the method that is being written
+-- ---- the method being read
 
--- The method written last in the class ends where the statements end, of which there are n.
+-- The body of the method defined last in the class ends where the n statements end.
 abbrev EndsAt : ℕ → Class → Type 0
 EndsAt n k = k .latest < length (k .methods) → let m = getD (k .methods) (k .latest) noMember in m .first + m .count ≡ n
 
@@ -209,7 +210,7 @@ statement-ends n k h g =
     let e = h there in
     ap (λ (x : Member). x .first + x .count) (alter-there oneMore noMember (k .latest) (k .methods) there) ∙ omega arith
 
--- ---- what a line keeps
+-- ---- what a line preserves
 
 -- The bodies that a new class inherits are its parents'.
 module _ (l k : Library) (n : Name) (ps ns : List Name) (e : k .classes ≡ l .classes ++ (newClass l n ps ∷ []))
@@ -234,7 +235,7 @@ module _ (l k : Library) (n : Name) (ps ns : List Name) (e : k .classes ≡ l .c
       (λ p m. all-map (Body [] l (classNumber l p)) (Body ns k last) (className l p .methods)
       (λ x. body-passed l k [] ns grown (classNumber l p) last (heir-wider p m) x (old x)) (b (classNumber l p)))
 
--- The bodies of the class that a statement goes into.
+-- The bodies of the class that a statement is added to.
 module _ (l k : Library) (x : Placed) (ns : List Name) (e : k .statements ≡ l .statements ++ (x ∷ []))
     (grown : Grown (ahead ns (l .classes)) (ahead ns (k .classes))) where
   more-bodies : (c : ℕ) → Sound l → EndsAt (length (l .statements)) (classAt l c) → Bodies ns l
@@ -257,7 +258,7 @@ module _ (l k : Library) (x : Placed) (ns : List Name) (e : k .statements ≡ l 
       (named-still old new wide (awaiting ns l) (awaiting ns k) grown (x .statement) (knows (class-there (l .classes) c (h .latest) there)), tt)))
       (all-both (Within n) (Body ns l c) (h .methods) (class-good l n sound c .within) (b c))
 
--- What is known after each line; ns are the methods that the lines below still write in the last class.
+-- What is known after each line; ns are the methods that the lines below still define in the last class.
 record Knows (p : Place) (ns : List Name) (l : Library) : Type 0 where
   sound : Sound l
   heirs : Heirs (l .classes)
@@ -271,7 +272,7 @@ module _ (p : Place) (l : Library) (line : Line) (below : List Line) where
   abbrev last : ℕ
   last = lastNumber l
 
-  -- So it is where no statement was added.
+  -- It stays known where no statement is added.
   kept : (f : Form) → Knows p (laterBy f ns) l → add l line f .statements ≡ l .statements → (c : ℕ) → All (Body ns (add l line f) c) (classAt l c .methods)
   unfolding statementsOf
   kept f k e =
@@ -332,7 +333,7 @@ module _ (p : Place) (l : Library) (line : Line) (below : List Line) where
 
 -- ---- the library of a text
 
--- So it is at the text's end, where there is no method to write.
+-- It is known at the end of the text, where no method is yet to be defined.
 library-knows : (text : List ℕ) → (p : Place) × Knows p [] (library text)
 unfolding later
 library-knows text =

@@ -1,5 +1,5 @@
--- Names are known in every message that runs: its method in each object that it visits, and the names of the statements that are left
--- in the class of the object that it is on.
+-- Names are known in every running message: each object that it visits has its method, and the class of the current object knows
+-- the names of the remaining statements.
 use Prim.Native.Nat.{ℕ}
 use native.Mathlib.Omega.{arith}
 use mathlib.Core.Path.{_≡_, refl, sym, ap, subst}
@@ -17,9 +17,9 @@ use Rattle.model.specs.Fault.{strange, strangeGuard}
 use Rattle.model.specs.Vector.{Program}
 use Rattle.model.specs.Message.{Target, object, class, domain, Message, classOf, inDomain, inTarget, visited, placeOf, look, Effect, idle, storeAt, Activation, Run, opened, visit, begun, Outcome, goes, ends, stops, onward, withRest, withGot, replied, worth, holds, called, perform, guarded, plusReply, objectEnds, bodyEnds, inBody, onObject, limited, turn}
 use Rattle.model.specs.Machine.{Request, to, methodAt, find}
-use Rattle.twophase.specs.Base.{All}
-use Rattle.theory.specs.ListLaws.{both-left, both-right, eqb-true, ltb-true}
-use Rattle.theory.specs.Lookup.{place-known, name-known}
+use Rattle.laws.specs.Basics.{All}
+use Rattle.laws.specs.Lists.{both-left, both-right, eqb-true, ltb-true}
+use Rattle.laws.specs.Lookup.{place-known, name-known}
 use Rattle.theory.specs.Copies.{Resolves}
 use Rattle.theory.specs.Heirs.{Wider, grown-same}
 use Rattle.theory.specs.NamedLines.{body-still}
@@ -33,7 +33,7 @@ classOn p o = classAt (p .library) (classOf p o)
 abbrev pub NamedMessage : Program → Message → Type 0
 NamedMessage p m = (o : ℕ) → inTarget p (m .target) o ≡ true → among (classOn p o .methods) (m .method) ≡ true
 
--- The object that a message is on knows the names of the statements that its activations have left.
+-- The class of the current object knows the names of the remaining statements of its activations.
 abbrev pub NamedOn : Program → List ℕ → List Activation → Type 0
 NamedOn p [] below = Unit {0}
 NamedOn p (o ∷ os) below = All (λ (a : Activation). NamedBody (p .library) (classOn p o) (a .rest)) below
@@ -42,7 +42,7 @@ pub record NamedRun (p : Program) (r : Run) : Type 0 where
   pub message : NamedMessage p (r .message)
   pub rests : NamedOn p (r .objects) (r .activations)
 
--- ---- what a known statement says
+-- ---- what a known statement contains
 
 -- The parts of a known action.
 abbrev pub KnownAction : Library → Class → Action → Type 0
@@ -91,7 +91,7 @@ module _ (l : Library) (names : Names l) where
             (names .bodies c (memberPlace (classAt l c .methods) m) (place-known (classAt l c .methods) m e))
         go false e = subst (NamedBody l (classAt l c)) (sym (rule .lawful .unknown c m e)) tt
 
-    -- It knows those in the body that an ancestor runs.
+    -- It knows the names in the body that an ancestor runs.
     ancestor-named : (c d : ℕ) (m : Name) → classAt l c .ancestors d ≡ true → NamedBody l (classAt l c) (bodyOf l resolve d m)
     ancestor-named c d m up =
         let has : Wider (classAt l d) (classAt l c) = record { fields = names .fields c d up; methods = names .methods c d up; ancestors = λ e. names .ancestors c d e up } in
@@ -100,7 +100,7 @@ module _ (l : Library) (names : Names l) where
 -- ---- outcomes
 
 module _ (p : Program) where
-  -- What a step may come to: the names stay known.
+  -- The outcome of a step: the names stay known.
   abbrev Named : Outcome → Type 0
   Named (goes r e) = NamedRun p r
   Named (ends v e) = Unit {0}
@@ -171,7 +171,7 @@ module _ (p : Program) (names : Names (p .library)) where
   -- ---- a step
 
   module _ (rule : Resolves (p .library) (p .resolve)) where
-    -- A message on its next objects.
+    -- A message at its next objects.
     visit-named : (m : Message) → NamedMessage p m → (os : List ℕ) (sum : ℕ) → NamedRun p (visit p m os sum)
     visit-named m h [] sum = record { message = h; rests = tt }
     visit-named m h (o ∷ os) sum = record { message = h; rests = (body-named l names (p .resolve) rule (classOf p o) (m .method), tt) }

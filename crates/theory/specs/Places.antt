@@ -1,4 +1,4 @@
--- Where the values of the objects' fields are: each (object, field) has a place of its own.
+-- Where the values of the objects' fields are stored: each (object, field) has a place of its own.
 use Prim.Native.Nat.{ℕ, zero, suc, _+_, _≤_, _<_}
 use native.Mathlib.Omega.{arith}
 use native.Mathlib.Decide.{decLt}
@@ -10,7 +10,7 @@ use Rattle.model.specs.Word.{Name}
 use Rattle.model.specs.Library.{classAt, memberPlace}
 use Rattle.model.specs.Vector.{Program}
 use Rattle.model.specs.Message.{classOf, sizeOf, baseOf, placeOf}
-use Rattle.theory.specs.ListLaws.{ltb-true}
+use Rattle.laws.specs.Lists.{ltb-true}
 
 module _ (p : Program) where
   -- The place of a name in the field order of an object's class.

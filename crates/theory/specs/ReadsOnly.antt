@@ -1,5 +1,5 @@
--- Vectors are sound, the first half: a message reads only fields that its vector depends on. Fields that are alike there give
--- each turn the same outcome, whole.
+-- Vectors are sound, first half: a message reads only fields that its vector depends on. Fields that agree there give each step
+-- the same outcome.
 use Prim.Native.Nat.{ℕ}
 use mathlib.Core.Path.{_≡_, refl, ap, _∙_}
 use mathlib.Core.Bool.{Bool, true, false, not}
@@ -13,14 +13,14 @@ use Rattle.model.specs.Library.{classNumber, bodyOf}
 use Rattle.model.specs.Mode.{Write, depends}
 use Rattle.model.specs.Vector.{Program, inExpression, inAction, inGuard, inStatement, mention}
 use Rattle.model.specs.Message.{Message, classOf, placeOf, valueAt, look, idle, storeAt, Activation, Run, onward, withRest, replied, holds, called, perform, guarded, inBody, onObject, limited, turn}
-use Rattle.theory.specs.ListLaws.{same-refl}
-use Rattle.theory.specs.ModeLaws.{le-left, le-right}
+use Rattle.laws.specs.Lists.{same-refl}
+use Rattle.laws.specs.Modes.{le-left, le-right}
 use Rattle.theory.specs.VectorLaws.{Compiled}
 use Rattle.theory.specs.Places.{fieldPlace, by-place}
 use Rattle.theory.specs.Footprint.{Visits, Agree}
 use Rattle.theory.specs.Coverage.{Covered, CoveredOn, Of, covered-within}
 
--- Readers that agree on the fields that an expression depends on give it one value.
+-- Readers that agree on the fields that an expression depends on give it the same value.
 value-local : (look₁ look₂ : Name → ℕ) (arg got′ : ℕ) (e : Expression) → ((f : Name) → depends (inExpression f e) ≡ true → look₁ f ≡ look₂ f)
     → valueOf look₁ arg got′ e ≡ valueOf look₂ arg got′ e
 unfolding valueOf inExpression
@@ -32,14 +32,14 @@ value-local look₁ look₂ arg got′ (apply o a b) h = λ i. operate o
     (value-local look₁ look₂ arg got′ a (λ f d. h f (le-left (inExpression f a) (inExpression f b) .depend d)) i)
     (value-local look₁ look₂ arg got′ b (λ f d. h f (le-right (inExpression f a) (inExpression f b) .depend d)) i)
 
--- They let a guard hold alike.
+-- They give a guard the same value.
 guard-local : (a : Activation) (look₁ look₂ : Name → ℕ) (g : Option Expression) → ((f : Name) → depends (inGuard f g) ≡ true → look₁ f ≡ look₂ f)
     → holds a look₁ g ≡ holds a look₂ g
 guard-local a look₁ look₂ none h = refl
 guard-local a look₁ look₂ (some e) h = ap (λ v. not (eqb v 0)) (value-local look₁ look₂ (a .arg) (a .got) e h)
 
 module _ (p : Program) where
-  -- They give an action one outcome.
+  -- They give an action the same outcome.
   perform-local : (r : Run) (o : ℕ) (a : Activation) (below : List Activation) (look₁ look₂ : Name → ℕ) (x : Action)
       → ((f : Name) → depends (inAction f x) ≡ true → look₁ f ≡ look₂ f) → perform p r o a below look₁ x ≡ perform p r o a below look₂ x
   unfolding inAction
@@ -59,7 +59,7 @@ module _ (p : Program) where
   guarded-local r o a below look₁ look₂ x false h = refl
 
 module _ (p : Program) (right : Compiled p) (m : Message) where
-  -- Fields that agree where the message looks are such readers for each statement that it runs.
+  -- Fields that agree wherever the message may read are such readers for each statement that it runs.
   look-local : (fields others : List ℕ) → Agree p m fields others → (o : ℕ) → Visits p m o → (s : Statement) → Covered p (classOf p o) (m .method) s
       → (f : Name) → depends (inStatement f s) ≡ true → look p fields o f ≡ look p others o f
   look-local fields others agree o visits s c f d =
@@ -91,7 +91,7 @@ module _ (p : Program) (right : Compiled p) (m : Message) where
   object-local fields others agree r (o ∷ os) (a ∷ below) visits c =
       body-local fields others agree r o os a below (visits o (List·Memᴰ·head refl)) (a .rest) (c a (List·Memᴰ·head refl))
 
-  -- Fields that are alike where the message looks give the same outcome, whole.
+  -- Fields that agree wherever the message may read give the same outcome.
   pub turn-local : (r : Run) (fields others : List ℕ) → Of p m r → Agree p m fields others → turn p r fields ≡ turn p r others
   unfolding turn
   turn-local r fields others i agree = ap limited (object-local fields others agree r (r .objects) (r .activations) (i .visiting) (i .covered))

@@ -1,4 +1,4 @@
--- 01's messages, locks and undo keep the laws of a service, for every library and every lawful resolution.
+-- 01's messages, locks and undo notes satisfy the laws of a service, for every library and every lawful resolution.
 use Rattle.model.specs.Library.{Library, Resolution}
 use Rattle.model.specs.Vector.{Program, programBy, program}
 use Rattle.model.specs.Machine.{service}
@@ -11,10 +11,11 @@ use Rattle.theory.specs.ReadsOnly.{turn-local}
 use Rattle.theory.specs.SetsOnly.{of-turn, may-goes, may-ends}
 use Rattle.theory.specs.Locality.{agree-refl, agree-sym, agree-trans, agree-act, free-sym, free-commute, free-agree}
 use Rattle.theory.specs.LockLaws.{free-lock}
-use Rattle.theory.specs.UndoLaws.{back-clean, back-noted, noted-local, aside-clean, aside-noted, aside-back}
+use Rattle.laws.specs.PutBack.{back-clean}
+use Rattle.theory.specs.UndoLaws.{back-noted, noted-local, aside-clean, aside-noted, aside-back}
 use Rattle.theory.specs.Alone.{alone-end}
 
--- A program whose vectors are those of its library.
+-- The laws, for a program whose vectors are those of its library.
 unfoldable pub laws : (p : Program) → Compiled p → Laws (service p)
 laws p right = record {
   Ok = λ fields. Unit {0};
@@ -46,7 +47,7 @@ laws p right = record {
   alone-end = alone-end p;
 }
 
--- The program of a library, by any lawful resolution and so by 01's.
+-- The laws, for the program of a library by any lawful resolution, and so by 01's.
 pub laws-by : (l : Library) (resolve : Resolution) → Lawful l resolve → Laws (service (programBy l resolve))
 laws-by l resolve lawful = laws (programBy l resolve) (programBy-compiled l resolve lawful)
 

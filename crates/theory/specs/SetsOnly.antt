@@ -1,4 +1,4 @@
--- Vectors are sound, the second half: a message sets only fields that its vector changes, and each turn leaves a run of it.
+-- Vectors are sound, second half: a message sets only fields that its vector changes, and each step leaves a run of the message.
 use Prim.Native.Nat.{ℕ, _<_}
 use mathlib.Core.Path.{_≡_, refl, sym, subst}
 use mathlib.Core.Bool.{Bool, true, false, cond}
@@ -12,15 +12,15 @@ use Rattle.model.specs.Mode.{Write}
 use Rattle.model.specs.Graph.{Node, callee}
 use Rattle.model.specs.Vector.{Program, inExpression, inAction, inGuard, inStatement, mention}
 use Rattle.model.specs.Message.{Message, classOf, sizeOf, placeOf, look, Effect, idle, storeAt, Activation, Run, opened, visit, Outcome, goes, ends, stops, onward, withRest, withGot, replied, worth, holds, called, perform, guarded, plusReply, objectEnds, bodyEnds, inBody, onObject, limited, turn}
-use Rattle.theory.specs.ListLaws.{same-refl}
-use Rattle.theory.specs.ModeLaws.{Le, le-left, le-right, le-trans}
+use Rattle.laws.specs.Lists.{same-refl}
+use Rattle.laws.specs.Modes.{Le, le-left, le-right, le-trans}
 use Rattle.theory.specs.VectorLaws.{bodyAt, Compiled}
 use Rattle.theory.specs.Places.{fieldPlace, by-place}
 use Rattle.theory.specs.Footprint.{Visits, modeAt, May}
 use Rattle.theory.specs.Coverage.{Covered, AllCovered, CoveredOn, Of, callee-covered, cons-covered, visit-of, covered-within}
 
 module _ (p : Program) (m : Message) where
-  -- What a step may come to: a run of the message, with an effect that the message may have.
+  -- What a step may give: a run of the message, with an effect that the message may have.
   abbrev pub Fine : Outcome → Type 0
   Fine (goes r e) = Of p m r × May p m e
   Fine (ends v e) = May p m e
@@ -121,13 +121,13 @@ module _ (p : Program) (right : Compiled p) (m : Message) where
   object-fine r i fields (o ∷ os) (a ∷ below) now c =
       body-fine r i o os now a below (look p fields o) (a .rest) (c a (List·Memᴰ·head refl)) (λ b k. c b (List·Memᴰ·tail k))
 
-  -- A turn leads to runs of the same message, and has effects that the message may have.
+  -- A step leads to runs of the same message, and has effects that the message may have.
   pub turn-fine : (r : Run) (fields : List ℕ) → Of p m r → Fine p m (turn p r fields)
   unfolding turn
   turn-fine r fields i =
       fine-limited p m (onObject p r fields (r .objects) (r .activations)) (object-fine r i fields (r .objects) (r .activations) refl (i .covered))
 
-  -- What a turn leaves is a run of the message.
+  -- What a step leaves is a run of the message.
   pub of-turn : (r r′ : Run) (e : Effect) (fields : List ℕ) → Of p m r → turn p r fields ≡ goes r′ e → Of p m r′
   of-turn r r′ e fields i q = subst (Fine p m) q (turn-fine r fields i) .0
 

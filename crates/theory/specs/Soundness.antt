@@ -1,5 +1,5 @@
--- Vectors are sound (01, "Vectors and commuting"): at every moment of a message's run, the turn to come reads only fields that
--- are Read or Write, and sets only fields that are Write, in the transitive vector of its method in its object's class.
+-- Vectors are sound (01, "Vectors and commuting"): at every moment of a message's run, the next step reads only fields that are
+-- Read or Write, and sets only fields that are Write, in the transitive vector of its method in its object's class.
 use Prim.Native.Nat.{ℕ}
 use mathlib.Core.Path.{_≡_}
 use mathlib.Core.List.{List}
@@ -13,8 +13,8 @@ use Rattle.theory.specs.Coverage.{Of, of-begun}
 use Rattle.theory.specs.ReadsOnly.{turn-local}
 use Rattle.theory.specs.SetsOnly.{Fine, turn-fine, of-turn}
 
--- What the turn to come reads: the outcome is the same for any fields that are alike where the message looks. What it sets:
--- the effect is one that the message may have.
+-- What the next step reads: the outcome is the same for any fields that agree wherever the message may read. What it sets: the
+-- effect is one that the message may have.
 pub record Sound (p : Program) (m : Message) (r : Run) (fields : List ℕ) : Type 0 where
   pub reads-only : (others : List ℕ) → Agree p m fields others → turn p r fields ≡ turn p r others
   pub sets-only : Fine p m (turn p r fields)
@@ -25,7 +25,7 @@ module _ (p : Program) (right : Compiled p) (m : Message) where
   part-of start = of-begun p m
   part-of (more {r = r} {G = fields} r′ e t q) = of-turn p right m r r′ e fields (part-of t) q
 
-  -- So at every moment the turn to come keeps to its vector.
+  -- So at every moment the next step keeps to its vector.
   pub vectors-sound : {first : List ℕ} {r : Run} {fields : List ℕ} → Part (service p) m first r fields → Sound p m r fields
   vectors-sound {r = r} {fields = fields} t =
       let i = part-of t in

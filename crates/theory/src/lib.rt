@@ -1,1 +1,1 @@
-// The theorems about the model: see specs/.
+// The theorems about the model, in specs/; there is no code.

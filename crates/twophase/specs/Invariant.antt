@@ -1,12 +1,12 @@
--- What holds of machine and course at each moment, and what follows from it at that moment: the heart is `view`, by which
--- a slot's messages see the fields as if their transaction were alone on the course's fields.
+-- The invariant of machine and course, and what follows from it at one moment. The central lemma is `view`: a slot's messages see
+-- the fields as if their transaction ran alone on the course's fields.
 use Prim.Native.Nat.{ℕ, zero, suc, _≤_, _<_}
 use mathlib.Core.Path.{_≡_, refl, sym, ap, _∙_, subst}
 use mathlib.Core.Bool.{false}
 use mathlib.Core.Option.{Option, none, some}
 use mathlib.Core.List.{List, [], _∷_, _++_}
 use Rattle.model.specs.Base.{put}
-use Rattle.twophase.specs.Base.{put-cases, All, In, all-at, all-of}
+use Rattle.laws.specs.Basics.{put-cases, All, In, all-at, all-of}
 use Rattle.model.specs.Service.{Service, Transaction, Slot, closed, opened, World, Answered, Sends, Course, fieldsAfter, answerOf, replayed, comparedIn}
 use Rattle.twophase.specs.Claims.{Right}
 use Rattle.twophase.specs.Laws.{Part, Laws}
@@ -22,22 +22,22 @@ module _ (𝓢 : Service) (𝓛 : Laws 𝓢) where
   abbrev pub Made : List Message → List Effect → Type 0
   Made ms d = All (λ e. (m : Message) × In m ms × May m e) d
 
-  -- No message of the one list clashes with one of the other.
+  -- No message of one list clashes with one of the other.
   abbrev pub AllFree : List Message → List Message → Type 0
   AllFree ms ms′ = All (λ m. All (Free m) ms′) ms
 
-  -- The two are alike wherever one of the messages looks.
+  -- The two agree wherever one of the messages may read.
   abbrev pub AllAgree : List Message → Fields → Fields → Type 0
   AllAgree ms F G = All (λ m. Agree m F G) ms
 
   -- The state of an open transaction that was granted the messages ms and had the effects d, over the course's fields P. Each
-  -- claim about the course is made of all fields Q that the transaction cannot tell from P.
+  -- claim about the course is made for all fields Q that the transaction cannot distinguish from P.
 
   -- No message runs: the answered sends, run in order, have these effects.
   pub record Idle (P : Fields) (ms : List Message) (d : List Effect) (s : Sends 𝓢) : Type 0 where
     pub same : (Q : Fields) → AllAgree ms P Q → acts act d Q ≡ replayed 𝓢 (s .list) Q
 
-  -- A message runs: it is the latest send, and by itself after the answered sends it comes to this run and these effects.
+  -- A message runs: it is the latest send, and run alone after the answered sends it reaches this run and these effects.
   pub record Busy (P : Fields) (ms : List Message) (d : List Effect) (s : Sends 𝓢) (r : Run) : Type 0 where
     pub message : Message
     pub among : In message ms
@@ -45,13 +45,13 @@ module _ (𝓢 : Service) (𝓛 : Laws 𝓢) where
     pub latest : s .latest ≡ some message
     pub part : (Q : Fields) → AllAgree ms P Q → Part 𝓢 message (replayed 𝓢 (s .list) Q) r (acts act d Q)
 
-  -- What is known, by what runs.
+  -- What is known, by the running message, if any.
   abbrev pub Activity : Fields → List Message → List Effect → Sends 𝓢 → Option Run → Type 0
   Activity P ms d s none = Idle P ms d s
   Activity P ms d s (some r) = Busy P ms d s r
 
-  -- An open slot: a message that clashes with no lock is free of all that was granted; what such a message may do does not
-  -- meet the notes; the notes undo the effects; the answers got are those of the course; and what runs.
+  -- An open slot: a message that clashes with no lock is free of all messages granted; its effects leave the noted places alone;
+  -- the notes undo the effects; the answers given are those of the course; and what is known of the running message.
   pub record Open (P : Fields) (ms : List Message) (d : List Effect) (y : Transaction 𝓢) (s : Sends 𝓢) : Type 0 where
     pub held : (m : Message) → clash m (y .locks) ≡ false → All (Free m) ms
     pub far : (m : Message) → All (Free m) ms → (e : Effect) → May m e → Aside (y .undo) e
@@ -59,13 +59,13 @@ module _ (𝓢 : Service) (𝓛 : Laws 𝓢) where
     pub right : (Q : Fields) → AllAgree ms P Q → All Right (comparedIn 𝓢 (s .list) Q)
     pub activity : Activity P ms d s (y .running)
 
-  -- A slot: a closed one has no messages and no effects.
+  -- The state of a slot; a closed one has no messages and no effects.
   abbrev pub SlotState : Fields → List Message → List Effect → Sends 𝓢 → Slot 𝓢 → Type 0
   SlotState P ms d s closed = (ms ≡ []) × (d ≡ [])
   SlotState P ms d s (opened y) = Open P ms d y s
 
-  -- Machine and course: for each slot the messages granted to its open transaction and that transaction's effects, latest
-  -- first. The messages of different slots do not clash, and the fields are the course's with all these effects.
+  -- Machine and course: for each slot the messages granted to its open transaction and that transaction's effects, latest first.
+  -- The messages of different slots do not clash, and the machine's fields are the course's with all these effects.
   pub record Invariant (w : World 𝓢) (x : Course 𝓢) : Type 0 where
     pub messages : ℕ → List Message
     pub effects : ℕ → List Effect
@@ -87,7 +87,7 @@ module _ (𝓢 : Service) (𝓛 : Laws 𝓢) where
       let (m′, i, may′) = made .0 in
       free-commute m m′ e e′ (acts act d F) (all-at (Free m) ms m′ i free) may may′ ∙ ap (act e′) (swap-one m e may ms free d (made .1) F)
 
-  -- So do two lists of effects.
+  -- Two lists of such effects commute.
   swap-lists : (ms ms′ : List Message) → AllFree ms ms′ → (d d′ : List Effect) → Made ms d → Made ms′ d′ → Swap act d d′
   swap-lists ms ms′ free [] d′ made made′ F = refl
   swap-lists ms ms′ free (e ∷ d) d′ made made′ F =
@@ -101,7 +101,7 @@ module _ (𝓢 : Service) (𝓛 : Laws 𝓢) where
       → ((t : ℕ) → Made (messages t) (effects t)) → Apart act effects
   apart messages effects free made t k ne = swap-lists (messages t) (messages k) (free t k ne) (effects t) (effects k) (made t) (made k)
 
-  -- To put back goes through effects of messages that do not clash.
+  -- Putting back commutes with the effects of messages that do not clash.
   pub back-acts : (ms : List Message) (u : Undo) → ((m : Message) → All (Free m) ms → (e : Effect) → May m e → Aside u e)
       → (ms′ : List Message) → AllFree ms′ ms → (d : List Effect) → Made ms′ d → (F : Fields) → putBack u (acts act d F) ≡ acts act d (putBack u F)
   back-acts ms u far ms′ free [] made F = refl
@@ -110,14 +110,14 @@ module _ (𝓢 : Service) (𝓛 : Laws 𝓢) where
       aside-back u e (acts act d F) (far m (all-at (λ m. All (Free m) ms) ms′ m i free) e may)
       ∙ ap (act e) (back-acts ms u far ms′ free d (made .1) F)
 
-  -- So it goes through the effects of all slots.
+  -- Putting back commutes with the effects of all slots.
   back-over : (n : ℕ) (u : Undo) (effects : ℕ → List Effect)
       → ((k : ℕ) (F : Fields) → putBack u (acts act (effects k) F) ≡ acts act (effects k) (putBack u F))
       → (F : Fields) → putBack u (over act n effects F) ≡ over act n effects (putBack u F)
   back-over zero u effects back F = refl
   back-over (suc n) u effects back F = back n (over act n effects F) ∙ ap (acts act (effects n)) (back-over n u effects back F)
 
-  -- The same effects keep two fields alike.
+  -- The same effects preserve agreement.
   agree-acts : (m : Message) (d : List Effect) (F G : Fields) → Agree m F G → Agree m (acts act d F) (acts act d G)
   agree-acts m [] F G a = a
   agree-acts m (e ∷ d) F G a = agree-act m e _ _ (agree-acts m d F G a)
@@ -129,31 +129,31 @@ module _ (𝓢 : Service) (𝓛 : Laws 𝓢) where
       let (m′, i, may) = made .0 in
       agree-trans m F (acts act d F) _ (agree-made m ms free d (made .1) F) (free-agree m m′ e (acts act d F) (all-at (Free m) ms m′ i free) may)
 
-  -- Nor does it see those of all slots together.
+  -- It does not see those of all slots together.
   agree-over : (n : ℕ) (m : Message) (effects : ℕ → List Effect) → ((k : ℕ) (F : Fields) → Agree m F (acts act (effects k) F))
       → (F : Fields) → Agree m F (over act n effects F)
   agree-over zero m effects each F = agree-refl m F
   agree-over (suc n) m effects each F = agree-trans m F (over act n effects F) _ (agree-over n m effects each F) (each n _)
 
-  -- Fields that can occur stay so under a transaction's effects.
+  -- A transaction's effects preserve fields that can occur.
   pub ok-acts : (ms : List Message) (d : List Effect) → Made ms d → (F : Fields) → Ok F → Ok (acts act d F)
   ok-acts ms [] made F ok = ok
   ok-acts ms (e ∷ d) made F ok = let (m, i, may) = made .0 in ok-act m e _ (ok-acts ms d (made .1) F ok) may
 
-  -- So they do under all slots' effects.
+  -- The effects of all slots do too.
   ok-over : (n : ℕ) (messages : ℕ → List Message) (effects : ℕ → List Effect) → ((t : ℕ) → Made (messages t) (effects t))
       → (F : Fields) → Ok F → Ok (over act n effects F)
   ok-over zero messages effects made F ok = ok
   ok-over (suc n) messages effects made F ok = ok-acts (messages n) (effects n) (made n) _ (ok-over n messages effects made F ok)
 
-  -- Not to clash goes both ways.
+  -- Freedom from clashes is symmetric.
   pub all-free-sym : (ms ms′ : List Message) → AllFree ms ms′ → AllFree ms′ ms
   all-free-sym ms ms′ free = all-of (λ m. All (Free m) ms) ms′ (λ m i. all-of (Free m) ms (back m i))
     where
       back : (m : Message) → In m ms′ → (m′ : Message) → In m′ ms → Free m m′
       back m i m′ j = free-sym m′ m (all-at (Free m′) ms′ m i (all-at (λ m. All (Free m) ms′) ms m′ j free))
 
-  -- An open slot may stand over other fields of the course that its transaction cannot tell and that its notes come back to.
+  -- An open slot's state holds over other fields of the course that its transaction cannot distinguish and that its notes restore.
   pub over-other : (P P′ : Fields) (ms : List Message) (d : List Effect) (y : Transaction 𝓢) (s : Sends 𝓢) → AllAgree ms P P′
       → putBack (y .undo) (acts act d P′) ≡ P′ → Open P ms d y s → Open P′ ms d y s
   over-other P P′ ms d y s alike undoes o =
@@ -167,9 +167,9 @@ module _ (𝓢 : Service) (𝓛 : Laws 𝓢) where
       active none v = record { same = λ Q a. v .same Q (tell Q a) }
       active (some r) v = record { message = v .message; among = v .among; of = v .of; latest = v .latest; part = λ Q a. v .part Q (tell Q a) }
 
-  -- ---- one send more at the end of a slot's list
+  -- ---- one more send at the end of a slot's list
 
-  -- The fields after it.
+  -- The fields after the list.
   pub replayed-more : (ys : List (Answered 𝓢)) (y : Answered 𝓢) (F : Fields)
       → replayed 𝓢 (ys ++ (y ∷ [])) F ≡ fieldsAfter 𝓢 (alone (y .message) (replayed 𝓢 ys F)) (replayed 𝓢 ys F)
   replayed-more [] y F = refl
@@ -194,12 +194,12 @@ module _ (𝓢 : Service) (𝓛 : Laws 𝓢) where
     pub fields-ok : Ok (w .fields)
     fields-ok = subst Ok (sym (inv .total)) (ok-over 8 messages effects made (x .fields) (inv .ok))
 
-    -- Fields alike for every message, as they are the same.
+    -- Fields agree with themselves for every message.
     pub agree-self : (t : ℕ) → AllAgree (messages t) (x .fields) (x .fields)
     agree-self t = all-of (λ m. Agree m (x .fields) (x .fields)) (messages t) (λ m i. agree-refl m (x .fields))
 
     module _ (t : ℕ) where
-      -- The effects of the other slots.
+      -- The effects of the other slots, none for this one.
       abbrev pub others : ℕ → List Effect
       others = put effects t []
 
@@ -219,7 +219,7 @@ module _ (𝓢 : Service) (𝓛 : Laws 𝓢) where
       pub swap-others : (k : ℕ) → Swap act (effects t) (others k)
       swap-others = put-cases (λ k d. Swap act (effects t) d) effects t [] (λ F. refl) (λ k ne. all-apart t k (λ e. ne (sym e)))
 
-      -- Putting back one slot's notes takes away its effects, the others' effects standing below them.
+      -- Putting back one slot's notes removes its effects, which were applied after those of the others.
       pub back-below : (n : ℕ) (y : Transaction 𝓢) → w .slots t ≡ opened y
           → putBack (y .undo) (acts act (effects t) (over act n others (x .fields))) ≡ over act n others (x .fields)
       back-below n y q =
@@ -234,11 +234,11 @@ module _ (𝓢 : Service) (𝓛 : Laws 𝓢) where
               (λ k ne. back-acts (messages t) (y .undo) (state .far) (messages k) (free k t ne) (effects k) (made k))
 
       module _ (below : t < 8) where
-        -- The slot's effects stand over all others.
+        -- The slot's effects may be applied after all others.
         pub split : w .fields ≡ acts act (effects t) (over act 8 others (x .fields))
         split = inv .total ∙ pull act 8 t effects (x .fields) below all-apart
 
-        -- A message of the slot sees the fields as if its transaction were alone on the course's fields.
+        -- A message of the slot sees the fields as if its transaction ran alone on the course's fields.
         pub view : (m : Message) → In m (messages t) → Agree m (w .fields) (acts act (effects t) (x .fields))
         view m i =
             subst (λ F. Agree m F (acts act (effects t) (x .fields))) (sym split)
@@ -248,7 +248,7 @@ module _ (𝓢 : Service) (𝓛 : Laws 𝓢) where
             each = put-cases (λ k d. (F : Fields) → Agree m F (acts act d F)) effects t [] (λ F. agree-refl m F)
                 (λ k ne. agree-made m (messages k) (free-from m i k (λ e. ne (sym e))) (effects k) (made k))
 
-        -- Its next step is the one that it would take with its transaction alone on such fields.
+        -- Its next step is the one that it would take if its transaction ran alone on such fields.
         pub same-turn : (m : Message) (r : Run) → In m (messages t) → Of m r → (Q : Fields) → AllAgree (messages t) (x .fields) Q
             → turn r (acts act (effects t) Q) ≡ turn r (w .fields)
         same-turn m r i of Q a =

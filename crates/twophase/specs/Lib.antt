@@ -1,4 +1,3 @@
-pub mod Base
 pub mod Claims
 pub mod Laws
 pub mod Effects

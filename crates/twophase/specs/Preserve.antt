@@ -1,5 +1,5 @@
--- Each transition keeps the invariant: a slot opens, the course names a send, a send is granted, a step has its effect, a
--- slot closes. Which call makes which of these is not said here.
+-- Each transition preserves the invariant: a slot opens, the course names a send, a send is granted, a step has its effect, a
+-- slot closes. Theorem says which call makes which transition.
 use Prim.Native.Nat.{ℕ, _≤_, _<_}
 use native.Mathlib.Omega.{arith}
 use mathlib.Core.Path.{_≡_, refl, sym, ap, _∙_, subst}
@@ -7,8 +7,8 @@ use mathlib.Core.Bool.{false}
 use mathlib.Core.Option.{Option, none, some}
 use mathlib.Core.List.{List, [], _∷_, _++_}
 use Rattle.model.specs.Base.{put}
-use Rattle.twophase.specs.Base.{put-same, put-other, put-id, put-cases, at-or, below-or, All, In, here, there, all-at, all-of, all-map, all-append}
-use Rattle.model.specs.Service.{Service, goes, ends, Compared, Transaction, Slot, closed, opened, World, withSlot, newTransaction, heldBy, granted, undone, after, Answered, Sends, Course, noSends, withSends, fieldsAfter, answerOf, replayed, comparedIn, committed, named, addAnswer}
+use Rattle.laws.specs.Basics.{put-same, put-other, put-id, put-cases, at-or, below-or, All, In, here, there, all-at, all-of, all-map, all-append}
+use Rattle.model.specs.Service.{Service, goes, ends, Compared, Transaction, Slot, closed, opened, World, withFields, withSlot, newTransaction, started, advanced, heldBy, granted, undone, after, Answered, Sends, Course, noSends, withSends, fieldsAfter, answerOf, replayed, comparedIn, committed, named, addAnswer}
 use Rattle.twophase.specs.Claims.{Right}
 use Rattle.twophase.specs.Laws.{Part, start, more, Laws}
 use Rattle.twophase.specs.Effects.{acts, over, push, over-more}
@@ -19,7 +19,7 @@ module _ (𝓢 : Service) (𝓛 : Laws 𝓢) (w : World 𝓢) (x : Course 𝓢) 
   open Laws 𝓛 using (Ok, May, Free, of-begun, of-turn, may-goes, may-ends, free-sym, free-lock, back-clean, back-noted, noted-local, aside-clean, aside-noted, alone-end)
   open Invariant inv using (messages, effects, free, made)
 
-  -- The slots from 8 up stay closed.
+  -- The slots from 8 on stay closed.
   still-high : (y : Slot 𝓢) (k : ℕ) → 8 ≤ k → put (w .slots) t y k ≡ closed
   still-high y k far = put-other (w .slots) t y k (omega arith) ∙ inv .high k far
 
@@ -55,11 +55,11 @@ module _ (𝓢 : Service) (𝓛 : Laws 𝓢) (w : World 𝓢) (x : Course 𝓢) 
     before : Open 𝓢 𝓛 (x .fields) (messages t) (effects t) y (x .slots t)
     before = open-state 𝓢 𝓛 w x inv t y q
 
-    -- What is known of the slot when its running message is.
+    -- What is known of the slot, given its running message.
     state : (r : Option Run) → y .running ≡ r → Activity 𝓢 𝓛 (x .fields) (messages t) (effects t) (x .slots t) r
     state r n = subst (Activity 𝓢 𝓛 (x .fields) (messages t) (effects t) (x .slots t)) n (before .activity)
 
-    -- The course names a send the latest of a slot where no message runs.
+    -- The course makes a send the latest of a slot where no message runs.
     pub named-keeps : y .running ≡ none → (m : Message) → Invariant 𝓢 𝓛 w (named 𝓢 x t (some m))
     named-keeps n m =
         record {
@@ -87,7 +87,7 @@ module _ (𝓢 : Service) (𝓛 : Laws 𝓢) (w : World 𝓢) (x : Course 𝓢) 
           activity = subst (Activity 𝓢 𝓛 (x .fields) (messages t) (effects t) sends) (sym n) (record { same = state none n .same });
         }
 
-    -- The latest send, with which no other slot's locks clash, gets its locks and starts.
+    -- The latest send, which clashes with no other slot's locks, gets its locks and starts.
     pub granted-keeps : y .running ≡ none → (m : Message) → x .slots t .latest ≡ some m
         → ((k : ℕ) → (k ≡ t → ⊥) → k < 8 → clash m (heldBy 𝓢 (w .slots k)) ≡ false)
         → Invariant 𝓢 𝓛 (granted 𝓢 w t y m none .1) x
@@ -122,10 +122,7 @@ module _ (𝓢 : Service) (𝓛 : Laws 𝓢) (w : World 𝓢) (x : Course 𝓢) 
             (λ k low ne. free-of k (w .slots k) (inv .slot k) (clear k ne low))
             (λ k far ne. subst (All (Free m)) (sym (closed-state 𝓢 𝓛 w x inv k (inv .high k far) .0)) tt)
 
-        started : Transaction 𝓢
-        started = record { locks = lock m (y .locks); undo = y .undo; running = some (begun m) }
-
-        now : Open 𝓢 𝓛 (x .fields) (m ∷ messages t) (effects t) started (x .slots t)
+        now : Open 𝓢 𝓛 (x .fields) (m ∷ messages t) (effects t) (started 𝓢 y m) (x .slots t)
         now = record {
           held = λ m′ c. let r = free-lock m′ m (y .locks) c in (r .1, before .held m′ (r .0));
           far = λ m′ f. before .far m′ (f .1);
@@ -140,7 +137,7 @@ module _ (𝓢 : Service) (𝓛 : Laws 𝓢) (w : World 𝓢) (x : Course 𝓢) 
           };
         }
 
-    -- A step has its effect, whatever then runs and whatever the course then holds of the slot.
+    -- A step has its effect, whatever runs next and whatever the course then holds for the slot.
     pub moved : (m : Message) → In m (messages t) → (e : Effect) → May m e → (r : Option Run) (s : Sends 𝓢)
         → ((Q : Fields) → AllAgree 𝓢 𝓛 (messages t) (x .fields) Q → All Right (comparedIn 𝓢 (s .list) Q))
         → Activity 𝓢 𝓛 (x .fields) (messages t) (e ∷ effects t) s r → Invariant 𝓢 𝓛 (after 𝓢 w t y e r) (withSends 𝓢 x t s)
@@ -162,10 +159,7 @@ module _ (𝓢 : Service) (𝓛 : Laws 𝓢) (w : World 𝓢) (x : Course 𝓢) 
         all-made : (k : ℕ) → Made 𝓢 𝓛 (messages k) (put effects t (e ∷ effects t) k)
         all-made = put-cases (λ k d. Made 𝓢 𝓛 (messages k) d) effects t (e ∷ effects t) ((m, i, may), made t) (λ k ne. made k)
 
-        later : Transaction 𝓢
-        later = record { locks = y .locks; undo = noted (y .undo) e (w .fields); running = r }
-
-        now : Open 𝓢 𝓛 (x .fields) (messages t) (e ∷ effects t) later s
+        now : Open 𝓢 𝓛 (x .fields) (messages t) (e ∷ effects t) (advanced 𝓢 y e (w .fields) r) s
         now = record {
           held = before .held;
           far = λ m′ f e′ may′.
@@ -177,7 +171,7 @@ module _ (𝓢 : Service) (𝓛 : Laws 𝓢) (w : World 𝓢) (x : Course 𝓢) 
         }
 
     module _ (r : Run) (n : y .running ≡ some r) where
-      -- What is known of the message that runs.
+      -- What is known of the running message.
       busy : Busy 𝓢 𝓛 (x .fields) (messages t) (effects t) (x .slots t) r
       busy = state (some r) n
 
@@ -229,11 +223,11 @@ module _ (𝓢 : Service) (𝓛 : Laws 𝓢) (w : World 𝓢) (x : Course 𝓢) 
           next : Idle 𝓢 𝓛 (x .fields) (messages t) (e ∷ effects t) sends
           next = record { same = λ Q c. sym (replayed-more 𝓢 𝓛 list sent Q ∙ ap (λ z. fieldsAfter 𝓢 z (replayed 𝓢 list Q)) (run Q c)) }
 
-    -- A slot closes, over any fields of the course over which the other slots stand as they did.
+    -- A slot closes, over any fields of the course over which the states of the other slots still hold.
     pub shut : (F P : Fields) (l : List Compared) → Ok P → F ≡ over act 8 (others 𝓢 𝓛 w x inv t) P → All Right l
         → ((k : ℕ) → (k ≡ t → ⊥) → (s : Slot 𝓢) → SlotState 𝓢 𝓛 (x .fields) (messages k) (effects k) (x .slots k) s
         → SlotState 𝓢 𝓛 P (messages k) (effects k) (x .slots k) s)
-        → Invariant 𝓢 𝓛 (record { fields = F; slots = put (w .slots) t closed }) (record { fields = P; slots = put (x .slots) t (noSends 𝓢); compared = l })
+        → Invariant 𝓢 𝓛 (withSlot 𝓢 (withFields 𝓢 w F) t closed) (record { fields = P; slots = put (x .slots) t (noSends 𝓢); compared = l })
     shut F P l ok total good stands =
         record {
           messages = left;
@@ -258,7 +252,8 @@ module _ (𝓢 : Service) (𝓛 : Laws 𝓢) (w : World 𝓢) (x : Course 𝓢) 
         shut _ (x .fields) (x .compared) (inv .ok)
         (ap (putBack (y .undo)) (split 𝓢 𝓛 w x inv t below) ∙ back-below 𝓢 𝓛 w x inv t 8 y q) (inv .good) (λ k ne s v. v)
 
-    -- A slot closes by committing its transaction: its effects go over to the course's fields, and no other slot can tell.
+    -- A slot closes by committing its transaction: its effects are added to the course's fields, and no other slot can
+    -- distinguish them.
     pub committed-keeps : y .running ≡ none → Invariant 𝓢 𝓛 (withSlot 𝓢 w t closed) (committed 𝓢 x t)
     committed-keeps n =
         subst (λ P. Invariant 𝓢 𝓛 (withSlot 𝓢 w t closed) (record { fields = P; slots = put (x .slots) t (noSends 𝓢); compared = x .compared ++ list })) replay

@@ -1,5 +1,5 @@
--- Each call keeps the invariant, being a refusal or one of the transitions; so it holds after every list of calls, and from
--- it follow the two claims: commit order where no transaction is open, and what can be seen at each moment.
+-- Each call preserves the invariant, being a refusal or one of the transitions; so it holds after every list of calls. From it
+-- follow the two claims: commit order where no transaction is open, and what can be observed at each moment.
 use Prim.Native.Nat.{ℕ, zero, suc, _<_}
 use native.Mathlib.Omega.{arith}
 use mathlib.Core.Path.{_≡_, refl, sym, ap, _∙_, subst, fun-ext}
@@ -8,7 +8,7 @@ use mathlib.Core.Option.{Option, none, some}
 use mathlib.Core.List.{List, [], _∷_}
 use lib.Dec.{T, eqb, ltb, eqb→eq, ltb→lt}
 use Rattle.model.specs.Base.{put, least}
-use Rattle.twophase.specs.Base.{put-same, put-other, least-none, below-or}
+use Rattle.laws.specs.Basics.{put-same, put-other, least-none, below-or}
 use Rattle.model.specs.Service.{Outcome, goes, ends, stops, Service, Call, begin, send, step, commit, abort, Answer, refuse, Transaction, Slot, closed, opened, World, fresh, inTheWay, granted, sent, stepped, onClosed, onOpen, onSlot, slotOf, inRange, call, Course, startCourse, named, ifDone, fed}
 use Rattle.twophase.specs.Claims.{both, putBackSlot, putBackAll, Serial, Moment}
 use Rattle.twophase.specs.Laws.{Laws}
@@ -16,7 +16,7 @@ use Rattle.twophase.specs.Effects.{acts, over, over-same}
 use Rattle.twophase.specs.Invariant.{Invariant, agree-self, closed-state, open-state, back-below}
 use Rattle.twophase.specs.Preserve.{begun-keeps, named-keeps, granted-keeps, goes-keeps, ends-keeps, undone-keeps, committed-keeps}
 
--- Of two different slots the test of a clash is that of the locks.
+-- For two different slots the test of a clash is that of their locks.
 other-clash : (k s : ℕ) (b : Bool) → (k ≡ s → ⊥) → (not (eqb k s) && b) ≡ false → b ≡ false
 other-clash k s b ne = go (eqb k s) (λ t. ne (eqb→eq k s t))
   where
@@ -35,7 +35,7 @@ module _ (𝓢 : Service) (𝓛 : Laws 𝓢) where
     abbrev Keeps : Call Request → Answer × World 𝓢 → Type 0
     Keeps c y = Invariant 𝓢 𝓛 (y .1) (fed 𝓢 x c (y .0))
 
-    -- A refused call does nothing.
+    -- A refused call changes nothing.
     refuse-keeps : (c : Call Request) (n : ℕ) → Keeps c (refuse n, w)
     refuse-keeps (begin s) n = inv
     refuse-keeps (send s p) n = inv
@@ -44,7 +44,7 @@ module _ (𝓢 : Service) (𝓛 : Laws 𝓢) where
     refuse-keeps (abort s) n = inv
 
     module _ (s : ℕ) (below : s < 8) (y : Transaction 𝓢) (q : w .slots s ≡ opened y) where
-      -- A message that no other slot is in the way of starts, and any other does not.
+      -- A message that clashes with no other slot starts, and any other does not.
       grant-keeps : y .running ≡ none → (m : Message) (k : Option ℕ) → least (inTheWay 𝓢 w s m) 8 ≡ k
           → Invariant 𝓢 𝓛 (granted 𝓢 w s y m k .1) (ifDone 𝓢 (granted 𝓢 w s y m k .0) x (named 𝓢 x s (some m)))
       grant-keeps n m (some k) e = inv
@@ -102,9 +102,9 @@ module _ (𝓢 : Service) (𝓛 : Laws 𝓢) where
     call-keeps : (c : Call Request) → Keeps c (call 𝓢 w c)
     call-keeps c = range-keeps c (ltb (slotOf 𝓢 c) 8) refl
 
-    -- ---- what the invariant says
+    -- ---- consequences of the invariant
 
-    -- Undoing the slots below n takes away their effects.
+    -- Undoing the slots below n removes their effects.
     undo-over : (n : ℕ) → putBackAll 𝓢 n (w .slots) (over act n (inv .effects) (x .fields)) ≡ x .fields
     undo-over zero = refl
     undo-over (suc n) = ap (putBackAll 𝓢 n (w .slots)) (go (w .slots n) refl) ∙ undo-over n
@@ -119,7 +119,7 @@ module _ (𝓢 : Service) (𝓛 : Laws 𝓢) where
         go closed q = ap (λ d. acts act d F) (closed-state 𝓢 𝓛 w x inv n q .1)
         go (opened y) q = subst (λ G. putBackSlot 𝓢 (opened y) (acts act (inv .effects n) G) ≡ G) (sym lower) (back-below 𝓢 𝓛 w x inv n n y q)
 
-    -- What can be seen at the moment.
+    -- What can be observed at this moment.
     moment : Moment 𝓢 w x
     moment =
         record {
@@ -127,7 +127,7 @@ module _ (𝓢 : Service) (𝓛 : Laws 𝓢) where
           open-answers = λ t y q. open-state 𝓢 𝓛 w x inv t y q .right (x .fields) (agree-self 𝓢 𝓛 w x inv t);
         }
 
-    -- Where no transaction is open, machine and course are the same.
+    -- Where no transaction is open, machine and course have the same fields.
     serial : ((t : ℕ) → t < 8 → w .slots t ≡ closed) → Serial 𝓢 w x
     serial shut = record { same-fields = same; same-answers = inv .good; as-new = λ i. record { fields = same i; slots = fun-ext none-open i } }
       where
@@ -160,15 +160,15 @@ module _ (𝓢 : Service) (𝓛 : Laws 𝓢) where
   both-keeps w x inv [] = inv
   both-keeps w x inv (c ∷ cs) = let y = call 𝓢 w c in both-keeps (y .1) (fed 𝓢 x c (y .0)) (call-keeps w x inv c) cs
 
-  -- Commit order. Where a list of calls after a start leaves no transaction open, the fields are those of the plain course,
-  -- which runs each transaction's sends at its commit; each answer in a slot's list at its commit is the one that its run
-  -- gives; and the machine is as after a start on these fields.
+  -- Commit order. Where a list of calls after a start leaves no transaction open, the fields are those of the plain course, which
+  -- runs each transaction's sends at its commit; each answer in a slot's list at its commit is the one that its run gives; and
+  -- the machine is as after a start on these fields.
   pub commit-order : (F : Fields) → Ok F → (cs : List (Call Request)) → let y = both 𝓢 (fresh 𝓢 F) (startCourse 𝓢 F) cs in
       ((t : ℕ) → t < 8 → y .0 .slots t ≡ closed) → Serial 𝓢 (y .0) (y .1)
   commit-order F ok cs = serial _ _ (both-keeps (fresh 𝓢 F) (startCourse 𝓢 F) (start-keeps F ok) cs)
 
-  -- At each moment. After any list of calls, undoing all open transactions gives the fields of the plain course, that is, of
-  -- the committed ones run in commit order; and the answers that an open transaction got are those that it would get running
-  -- alone on these fields.
+  -- At each moment. After any list of calls, undoing all open transactions gives the fields of the plain course, that is, of the
+  -- committed ones run in commit order; and the answers given to an open transaction are those that it would get running alone on
+  -- these fields.
   pub at-each-moment : (F : Fields) → Ok F → (cs : List (Call Request)) → let y = both 𝓢 (fresh 𝓢 F) (startCourse 𝓢 F) cs in Moment 𝓢 (y .0) (y .1)
   at-each-moment F ok cs = moment _ _ (both-keeps (fresh 𝓢 F) (startCourse 𝓢 F) (start-keeps F ok) cs)

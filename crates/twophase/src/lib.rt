@@ -1,1 +1,1 @@
-// Two-phase locking in general is definitions and theorems alone: see specs/.
+// Two-phase locking in general: definitions and theorems only, in specs/.

@@ -5,13 +5,8 @@ use crate::guard::Guarded;
 use crate::library::{answer, target, GUARD};
 use crate::machine::Counts;
 use reference::machine::{Answer, Call};
+use wrapper::layout;
 use wrapper::machine::{lent, STATE_WORDS};
-
-/// Where the objects' and the statements' words begin, where the slots' rows begin, and how long each is (docs/STATE.md).
-pub const OBJECTS: usize = 3_720;
-pub const STATEMENTS: usize = 3_976;
-pub const ROWS: usize = 8_072;
-pub const ROW: usize = 2_264;
 
 /// A text, a state and values, with guards, and what each was before the next call.
 pub struct Memory {
@@ -96,13 +91,13 @@ impl Memory {
         let (state, values) = (self.state.contents(), self.values.contents());
         if let Answer::Held(by) = answer {
             assert!(by < 8 && by as usize != slot, "{call:?} is held by slot {by}");
-            assert!(state[ROWS + by as usize * ROW] != 0, "{call:?} is held by slot {by}, which is closed");
+            assert!(state[layout::TABLE_WORDS + by as usize * layout::ROW_WORDS] != 0, "{call:?} is held by slot {by}, which is closed");
         }
         if matches!(answer, Answer::Refused(_) | Answer::Held(_)) {
             assert!(state == self.state_before && values == self.values_before, "{call:?} answered {answer:?} and altered something");
             return;
         }
-        let (row, end) = (ROWS + slot * ROW, ROWS + (slot + 1) * ROW);
+        let (row, end) = (layout::TABLE_WORDS + slot * layout::ROW_WORDS, layout::TABLE_WORDS + (slot + 1) * layout::ROW_WORDS);
         assert!(state[..row] == self.state_before[..row] && state[end..] == self.state_before[end..], "{call:?} altered another row");
         let may_set = matches!(call, Call::Step(_) | Call::Abort(_));
         assert!(may_set || values == self.values_before, "{call:?} altered a value");

@@ -1,4 +1,4 @@
-//! Lent memory with guard elements before and behind it, which no call may alter.
+//! Lent memory with guard elements before and after it, which no call may alter.
 
 /// How many guard elements stand at each side; CISHMOLAQ_GUARD=0 leaves them out, so that valgrind sees the edges.
 fn width() -> usize {

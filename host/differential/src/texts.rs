@@ -3,6 +3,7 @@
 use crate::guard::Guarded;
 use generate::Random;
 use reference::text::{Library, Placed};
+use wrapper::layout::TABLE_WORDS;
 use wrapper::machine::{lent, NotStarted, STATE_WORDS};
 use wrapper::{Fault, NotCompiled, NotFound, NotPrinted, NotWritten};
 
@@ -133,7 +134,7 @@ fn start(text: &[u8], expected: &Expected, random: &mut Random) {
     start_on(text, expected, count, STATE_WORDS + random.below(9), random);
     start_on(text, expected, count + 1 + random.below(3), STATE_WORDS, random);
     start_on(text, expected, random.below(count), STATE_WORDS, random);
-    start_on(text, expected, count + random.below(2), *random.pick(&[0, 1, 8_072, STATE_WORDS - 1]), random);
+    start_on(text, expected, count + random.below(2), *random.pick(&[0, 1, TABLE_WORDS, STATE_WORDS - 1]), random);
 }
 
 /// Compares every call on a text. Gives the number of the verdict.

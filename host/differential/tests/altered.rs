@@ -1,7 +1,7 @@
 //! Calls on altered, shortened and exchanged memory. CISHMOLAQ_ALTERED sets how many generated machines are altered;
 //! CISHMOLAQ_APART=n alters each n-th word or byte only (valgrind is slow).
 
-use differential::altered::{Memory, OBJECTS, ROW, ROWS, STATEMENTS};
+use differential::altered::Memory;
 use differential::machine::Counts;
 use differential::{amount, each_seed};
 use generate::calls::{text_to_call, values_for, Caller};
@@ -9,6 +9,7 @@ use generate::{limits, Random};
 use reference::machine::{Answer, Call, Target};
 use reference::text::Library;
 use std::collections::HashMap;
+use wrapper::layout::{self, OBJECTS_AT, OBJECT_WORDS, ROW_WORDS, STATEMENTS_AT, TABLE_WORDS};
 use wrapper::machine::{lent, NotStarted, STATE_WORDS};
 
 /// A text whose messages set fields, call themselves, and visit several objects.
@@ -120,7 +121,7 @@ fn each_word_of_the_state() {
             let mut memory = Memory::new(base.text(), base.state(), base.values());
             for place in (part as usize..STATE_WORDS).step_by(64).step_by(apart()) {
                 let word = base.state()[place];
-                let slot = if place < ROWS { (place % 3) as u32 * 5 % 8 } else { ((place - ROWS) / ROW) as u32 };
+                let slot = if place < TABLE_WORDS { (place % 3) as u32 * 5 % 8 } else { ((place - TABLE_WORDS) / ROW_WORDS % 8) as u32 };
                 for edge in edges(word) {
                     memory.set(base.state(), base.values());
                     memory.put_word(place, edge);
@@ -173,14 +174,14 @@ fn refused(text: &[u8], state: &[u32], values: &[u32], number: u32) {
 fn other_lengths() {
     for base in at_work() {
         let (text, state, values) = (base.text(), base.state(), base.values());
-        for words in [0, 1, 3, 5, 8, ROWS - 1, ROWS, ROWS + 1, ROWS + ROW, STATE_WORDS - ROW, STATE_WORDS - 1] {
+        for words in [0, 1, 3, 5, 8, TABLE_WORDS - 1, TABLE_WORDS, TABLE_WORDS + 1, TABLE_WORDS + ROW_WORDS, STATE_WORDS - ROW_WORDS, STATE_WORDS - 1] {
             refused(text, &state[..words], values, 21);
             refused(text, &state[..words], &values[1..], 21);
             let mut short = vec![9; words];
             assert_eq!(lent::start(text, values, &mut short), Err(NotStarted::ShortState));
             assert!(short.iter().all(|&w| w == 9), "a refused start wrote");
         }
-        for count in (0..values.len()).chain([values.len() + 1, 2_048, 2_049, 5_000]) {
+        for count in (0..values.len()).chain([values.len() + 1, layout::VALUES, layout::VALUES + 1, 5_000]) {
             let other: Vec<u32> = values.iter().copied().chain(std::iter::repeat(1)).take(count).collect();
             refused(text, state, &other, 24);
             refused(&text[1..], state, &other, 24);
@@ -239,8 +240,8 @@ fn unknown_names() {
 #[test]
 fn places_out_of_range() {
     let end = running(Target::Object(0), 6);
-    let class = |place: usize| OBJECTS + place * 4 + 1;
-    let row = |word: usize| ROWS + word;
+    let class = |place: usize| OBJECTS_AT + place * OBJECT_WORDS + layout::OBJECT_CLASS_AT as usize;
+    let row = |word: usize| TABLE_WORDS + word;
     let first = Call::Step(0);
     for (calls, place, word, call) in [
         (vec![], class(0), 2, send(0, Target::Object(0), 0)),
@@ -250,25 +251,25 @@ fn places_out_of_range() {
         (running(Target::Object(0), 0), class(0), 2, first),
         (running(Target::Class(0), 6), class(1), 2, first),
         (running(Target::Domain(0), 6), class(1), 16, first),
-        (running(Target::Object(0), 0), OBJECTS + 2, 7, first),
-        (running(Target::Object(0), 0), OBJECTS + 2, u32::MAX, first),
-        (running(Target::Object(0), 0), STATEMENTS, 600 << 16 | 20, first),
-        (running(Target::Object(0), 0), STATEMENTS, 10 << 16 | 700, first),
-        (end.clone(), row(5), 3, first),
-        (end.clone(), row(6), 3, first),
-        (running(Target::Class(0), 6), row(6), 2, first),
-        (running(Target::Domain(0), 6), row(6), 16, first),
-        (running(Target::Domain(0), 6), row(7), 0, first),
-        (end.clone(), row(1), 0, first),
-        (end.clone(), row(1), 9, first),
-        (end.clone(), row(4), 4, first),
-        (end.clone(), row(4), u32::MAX, first),
-        (end.clone(), row(16), 11, first),
-        (running(Target::Object(0), 0), row(17), 11, first),
-        (running(Target::Object(0), 0), row(17), 4_097, first),
-        (end.clone(), 3, 9, Call::Commit(0)),
-        (end.clone(), 4, 9, Call::Abort(0)),
-        (end.clone(), 5, 9, Call::Begin(1)),
+        (running(Target::Object(0), 0), OBJECTS_AT + layout::OBJECT_VALUES_AT as usize, 7, first),
+        (running(Target::Object(0), 0), OBJECTS_AT + layout::OBJECT_VALUES_AT as usize, u32::MAX, first),
+        (running(Target::Object(0), 0), STATEMENTS_AT, 600 << 16 | 20, first),
+        (running(Target::Object(0), 0), STATEMENTS_AT, 10 << 16 | 700, first),
+        (end.clone(), row(layout::KIND_AT), 3, first),
+        (end.clone(), row(layout::NUMBER_AT), 3, first),
+        (running(Target::Class(0), 6), row(layout::NUMBER_AT), 2, first),
+        (running(Target::Domain(0), 6), row(layout::NUMBER_AT), 16, first),
+        (running(Target::Domain(0), 6), row(layout::NAME_AT), 0, first),
+        (end.clone(), row(layout::DEPTH_AT), 0, first),
+        (end.clone(), row(layout::DEPTH_AT), 9, first),
+        (end.clone(), row(layout::OBJECT_AT), 4, first),
+        (end.clone(), row(layout::OBJECT_AT), u32::MAX, first),
+        (end.clone(), row(layout::ACTIVATIONS_AT), 11, first),
+        (running(Target::Object(0), 0), row(layout::ACTIVATIONS_AT + layout::END_AT as usize), 11, first),
+        (running(Target::Object(0), 0), row(layout::ACTIVATIONS_AT + layout::END_AT as usize), 4_097, first),
+        (end.clone(), layout::VALUE_COUNT_AT, 9, Call::Commit(0)),
+        (end.clone(), layout::TEXT_LENGTH_AT, 9, Call::Abort(0)),
+        (end.clone(), layout::START_MARK_AT, 9, Call::Begin(1)),
     ] {
         let mut memory = after(&calls);
         memory.put_word(place, word);
@@ -277,7 +278,7 @@ fn places_out_of_range() {
     for phase in [3, 4, u32::MAX] {
         for call in [first, Call::Begin(0), Call::Commit(0), Call::Abort(0), send(0, Target::Object(1), 0)] {
             let mut memory = after(&end);
-            memory.put_word(row(0), phase);
+            memory.put_word(row(layout::PHASE_AT), phase);
             assert_eq!(memory.call(call), Answer::Refused(24), "{call:?} in phase {phase}");
         }
     }
@@ -287,7 +288,7 @@ fn places_out_of_range() {
 #[test]
 fn domain_without_the_method() {
     let mut memory = after(&[]);
-    let names = 8 + 232 + 72;
+    let names = layout::CLASSES_AT + layout::CLASS_WORDS + layout::METHOD_NAMES_AT as usize;
     for method in 0..3 {
         memory.put_word(names + method, 0);
     }
@@ -299,8 +300,8 @@ fn domain_without_the_method() {
 fn locks_of_a_closed_slot() {
     for target in [Target::Object(0), Target::Class(0), Target::Domain(0)] {
         let mut memory = after(&[]);
-        for word in 56..152 {
-            memory.put_word(ROWS + 3 * ROW + word, u32::MAX);
+        for word in layout::OBJECT_LOCKS_AT..layout::MARKS_AT {
+            memory.put_word(TABLE_WORDS + 3 * ROW_WORDS + word, u32::MAX);
         }
         assert_eq!(memory.call(send(0, target, 0)), Answer::Done, "{target:?}");
     }
@@ -332,10 +333,10 @@ fn try_calls(random: &mut Random, library: &Library, memory: &mut Memory) {
 fn alter(random: &mut Random, memory: &mut Memory) {
     for _ in 0..1 + random.below(40) {
         let place = match random.below(4) {
-            0 => random.below(8),
-            1 => 8 + random.below(ROWS - 8),
-            2 => ROWS + random.below(8) * ROW + random.below(216),
-            _ => ROWS + random.below(8 * ROW),
+            0 => random.below(layout::HEAD_WORDS),
+            1 => layout::CLASSES_AT + random.below(TABLE_WORDS - layout::CLASSES_AT),
+            2 => TABLE_WORDS + random.below(8) * ROW_WORDS + random.below(layout::SPARE_AT),
+            _ => TABLE_WORDS + random.below(8 * ROW_WORDS),
         };
         let word = memory.state()[place];
         let new = match random.below(3) {
@@ -343,7 +344,7 @@ fn alter(random: &mut Random, memory: &mut Memory) {
             1 => word ^ 1 << random.below(32),
             _ => random.edge(),
         };
-        if !(3..6).contains(&place) || random.one_in(20) {
+        if !(layout::VALUE_COUNT_AT..=layout::START_MARK_AT).contains(&place) || random.one_in(20) {
             memory.put_word(place, new);
         }
     }
@@ -353,7 +354,7 @@ fn alter(random: &mut Random, memory: &mut Memory) {
 fn rubbish(random: &mut Random, memory: &mut Memory) {
     let narrow = random.below(33) as u32;
     for place in 0..STATE_WORDS {
-        if !(3..6).contains(&place) {
+        if !(layout::VALUE_COUNT_AT..=layout::START_MARK_AT).contains(&place) {
             let word = (random.next() as u32).checked_shr(narrow).unwrap_or(0);
             memory.put_word(place, word);
         }

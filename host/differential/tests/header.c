@@ -8,6 +8,10 @@ static const char *const good =
     "object run1 run 7\n";
 static const char *const bad = "class run\nclass run\n";
 
+_Static_assert(CISHMOLAQ_STATE_WORDS == STATE_WORDS && CISHMOLAQ_MOST_VALUES == MOST_VALUES, "the layout's sizes");
+_Static_assert(CISHMOLAQ_LONGEST_TEXT == LONGEST_TEXT && CISHMOLAQ_LONGEST_IMAGE == LONGEST_IMAGE, "the text's and the image's");
+_Static_assert(CISHMOLAQ_LONGEST_TABLES == LONGEST_TABLES, "the lines'");
+
 #define TEXT(s) (const uint8_t *)(s), strlen(s)
 #define LENT TEXT(good), state, CISHMOLAQ_STATE_WORDS, values, 2
 

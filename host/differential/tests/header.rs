@@ -44,6 +44,10 @@ fn a_c_program() {
     let program = PathBuf::from(env!("CARGO_TARGET_TMPDIR")).join("header");
     let mut compiler = Command::new("cc");
     compiler.args(["-std=c11", "-Wall", "-Wextra", "-Wpedantic", "-Werror", "-I"]).arg(here.join("../include"));
+    // The sizes that the header names are the wrapper's, and these are the proved library's own constants.
+    compiler.arg(format!("-DSTATE_WORDS={}", wrapper::layout::STATE_WORDS)).arg(format!("-DMOST_VALUES={}", wrapper::MOST_VALUES));
+    compiler.arg(format!("-DLONGEST_TEXT={}", wrapper::LONGEST_TEXT)).arg(format!("-DLONGEST_IMAGE={}", wrapper::LONGEST_IMAGE));
+    compiler.arg(format!("-DLONGEST_TABLES={}", wrapper::LONGEST_TABLES));
     run(compiler.arg(here.join("tests/header.c")).arg(differential::archive()).arg("-o").arg(&program));
     assert_eq!(run(&mut Command::new(&program)), RIGHT);
 }

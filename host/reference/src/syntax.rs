@@ -56,7 +56,7 @@ pub fn number(word: &str) -> Option<u32> {
     word.parse().ok()
 }
 
-/// The expression at the front of the words, with at most `operators` operators on a path, and the words behind it.
+/// The expression at the front of the words, with at most `operators` operators on a path, and the words after it.
 fn expression<'a>(words: &'a [&'a str], operators: usize) -> Option<(Expression, &'a [&'a str])> {
     let (first, rest) = words.split_first()?;
     if ["+", "-", "*", "<", "="].contains(first) {

@@ -194,7 +194,7 @@ fn names_in(e: &Expression, into: &mut HashSet<String>) {
     }
 }
 
-/// The numbers 13 to 17 that a line deserves, by the library of the lines above. `later` are the methods that the class of
+/// The faults of a line, 13 to 17, by the library of the lines above. `later` are the methods that the class of
 /// the line still writes below it.
 fn faults(library: &Library, form: &Form, later: &[String]) -> Vec<u32> {
     let mut found = Vec::new();

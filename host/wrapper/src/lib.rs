@@ -6,8 +6,9 @@ pub const LONGEST_TEXT: usize = 32_768;
 /// No text has a longer image, prints more, or has more values.
 pub const LONGEST_IMAGE: usize = 38_936;
 pub const LONGEST_TABLES: usize = 51_200;
-pub const MOST_VALUES: usize = 2_048;
+pub const MOST_VALUES: usize = layout::VALUES;
 
+pub mod layout;
 pub mod machine;
 
 /// The functions of the archive, as the header declares them.

@@ -4,7 +4,7 @@
 use crate::{entries, Fault};
 
 /// The length of a state, the same for every text.
-pub const STATE_WORDS: usize = 26_184;
+pub use crate::layout::STATE_WORDS;
 
 /// Whom a send names, by number: an object, a class's own objects, or a class with all its descendants.
 #[derive(Clone, Copy, Debug, PartialEq, Eq)]

@@ -4,21 +4,6 @@ use borrow.Author.Needs.{needs}
 use Rattle.abi.proofs.cishmolaq_check.Statement.{statement}
 use Rattle.abi.proofs.cishmolaq_check.Tie as tie
 
-check-requires : tie.Need-check-requires
-check-requires c κs = search needs
-
-enum-told : tie.Need-enum-told
-enum-told c = search needs
-
-told-requires : tie.Need-told-requires
-told-requires c κs = search needs
-
-enum-known-verdict : tie.Need-enum-known-verdict
-enum-known-verdict c = search needs
-
-told-requires-2 : tie.Need-told-requires-2
-told-requires-2 c κs = search needs
-
 returns : tie.Need-returns
 returns c =
     let accepted = c .before .before .enum-told .given .1 in
@@ -33,10 +18,10 @@ pub cishmolaq-check-spec : {M : Type 1} → statement M
 cishmolaq-check-spec =
     tie.close
     (tie.spec
-    check-requires
-    enum-told
-    told-requires
-    enum-known-verdict
-    told-requires-2
+    (λ c κs. search needs)
+    (λ c. search needs)
+    (λ c κs. search needs)
+    (λ c. search needs)
+    (λ c κs. search needs)
     returns
     returns-2)

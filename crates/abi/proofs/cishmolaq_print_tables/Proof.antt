@@ -1,17 +1,8 @@
--- The answer is the entry's, told as a number and a detail.
+-- The answer is the entry's, as a number and a detail.
 use Rattle.abi.specs.Laws.{writes-as}
 use borrow.Author.Needs.{needs}
 use Rattle.abi.proofs.cishmolaq_print_tables.Statement.{statement}
 use Rattle.abi.proofs.cishmolaq_print_tables.Tie as tie
-
-print-tables-requires : tie.Need-print-tables-requires
-print-tables-requires c κs = search needs
-
-tell-requires : tie.Need-tell-requires
-tell-requires c κs = search needs
-
-same-length : tie.Need-same-length
-same-length c = search needs
 
 returns : tie.Need-returns
 returns c =
@@ -19,4 +10,4 @@ returns c =
     writes-as (c .tell .ensures) (printed .says) (printed .bytes) (printed .kept)
 
 pub cishmolaq-print-tables-spec : {M : Type 1} → statement M
-cishmolaq-print-tables-spec = tie.close (tie.spec print-tables-requires tell-requires same-length returns)
+cishmolaq-print-tables-spec = tie.close (tie.spec (λ c κs. search needs) (λ c κs. search needs) (λ c. search needs) returns)

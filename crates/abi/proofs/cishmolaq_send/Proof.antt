@@ -1,20 +1,8 @@
--- The answer is the entry's for the target of that kind, told as a number and a detail.
+-- The answer is the entry's for the target of that kind, as a number and a detail.
 use Rattle.abi.specs.CallLaws.{tells-call, sent-to}
 use borrow.Author.Needs.{needs}
 use Rattle.abi.proofs.cishmolaq_send.Statement.{statement}
 use Rattle.abi.proofs.cishmolaq_send.Tie as tie
-
-target-of-requires : tie.Need-target-of-requires
-target-of-requires c κs = search needs
-
-send-requires : tie.Need-send-requires
-send-requires c κs = search needs
-
-tell-call-requires : tie.Need-tell-call-requires
-tell-call-requires c κs = search needs
-
-same-length : tie.Need-same-length
-same-length c = search needs
 
 returns : tie.Need-returns
 returns c =
@@ -23,4 +11,4 @@ returns c =
 
 pub cishmolaq-send-spec : {M : Type 1} → statement M
 cishmolaq-send-spec =
-    tie.close (tie.spec target-of-requires send-requires tell-call-requires same-length returns)
+    tie.close (tie.spec (λ c κs. search needs) (λ c κs. search needs) (λ c κs. search needs) (λ c. search needs) returns)

@@ -1,18 +1,9 @@
--- The answer is the entry's, told as a number and a line; what is left is what that answer leaves.
+-- The answer is the entry's, as a number and a line; what is left is what that answer leaves.
 use Rattle.abi.specs.Laws.{tells-as}
 use Rattle.abi.specs.CallLaws.{start-leaves}
 use borrow.Author.Needs.{needs}
 use Rattle.abi.proofs.cishmolaq_start.Statement.{statement}
 use Rattle.abi.proofs.cishmolaq_start.Tie as tie
-
-start-requires : tie.Need-start-requires
-start-requires c κs = search needs
-
-tell-requires : tie.Need-tell-requires
-tell-requires c κs = search needs
-
-same-length : tie.Need-same-length
-same-length c = search needs
 
 returns : tie.Need-returns
 returns c =
@@ -20,4 +11,4 @@ returns c =
     (tells-as (c .tell .ensures) (started .says), start-leaves started)
 
 pub cishmolaq-start-spec : {M : Type 1} → statement M
-cishmolaq-start-spec = tie.close (tie.spec start-requires tell-requires same-length returns)
+cishmolaq-start-spec = tie.close (tie.spec (λ c κs. search needs) (λ c κs. search needs) (λ c. search needs) returns)

@@ -1,4 +1,4 @@
--- Each kind names its own target; what is no kind names an object that is never there.
+-- Each kind names its own target; any other kind names an object that never exists.
 use Rattle.abi.specs.CallLaws.{to-object, to-class, to-domain, to-none}
 use Rattle.abi.proofs.target_of.Statement.{statement}
 use Rattle.abi.proofs.target_of.Tie as tie

@@ -5,21 +5,6 @@ use borrow.Author.Needs.{needs}
 use Rattle.cishmolaq.proofs.place_at.Statement.{statement}
 use Rattle.cishmolaq.proofs.place_at.Tie as tie
 
-statement-count-requires : tie.Need-statement-count-requires
-statement-count-requires c κs = search needs
-
-add-get : tie.Need-add-get
-add-get c = search needs
-
-get-requires : tie.Need-get-requires
-get-requires c κs = search needs
-
-cast-t7 : tie.Need-cast-t7
-cast-t7 c = search needs
-
-cast-t8 : tie.Need-cast-t8
-cast-t8 c = search needs
-
 returns : tie.Need-returns
 returns c = λ text e.
     let a = c .before .before .before .before .args in
@@ -33,4 +18,4 @@ returns-2 c = λ text e.
 pub place-at-spec : {M : Type 1} → statement M
 place-at-spec =
     tie.close
-    (tie.spec statement-count-requires add-get get-requires cast-t7 cast-t8 returns returns-2)
+    (tie.spec (λ c κs. search needs) (λ c. search needs) (λ c κs. search needs) (λ c. search needs) (λ c. search needs) returns returns-2)

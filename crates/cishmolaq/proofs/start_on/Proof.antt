@@ -1,4 +1,4 @@
--- The state, then the count are tested before anything is stored; what is stored is a fresh start.
+-- The state's length, then the number of values, are tested before anything is stored; what is stored is a fresh start.
 use native.Mathlib.Omega.{arith}
 use Rattle.cishmolaq.specs.Start.{start-short, start-other, start-done}
 use borrow.Author.Needs.{needs}

@@ -6,24 +6,6 @@ use borrow.Author.Needs.{needs}
 use Rattle.cishmolaq.proofs.statement_fault.Statement.{statement}
 use Rattle.cishmolaq.proofs.statement_fault.Tie as tie
 
-slice-aggregate-read-text : tie.Need-slice-aggregate-read-text
-slice-aggregate-read-text c = search needs
-
-read-text-requires : tie.Need-read-text-requires
-read-text-requires c κs = search needs
-
-enum-known-verdict : tie.Need-enum-known-verdict
-enum-known-verdict c = search needs
-
-enum-told : tie.Need-enum-told
-enum-told c = search needs
-
-slice-aggregate-statement-count : tie.Need-slice-aggregate-statement-count
-slice-aggregate-statement-count c = search needs
-
-statement-count-requires : tie.Need-statement-count-requires
-statement-count-requires c κs = search needs
-
 returns : tie.Need-returns
 returns c = statement-refused (c .before .before .before .before .before .before .before .args .text .now) (c .before .before .before .before .before .before .before .args .count) _ _ (refused-by (c .before .before .before .before .read-text .ensures) _ _ (c .before .verdict .given .1)) .1
 
@@ -37,12 +19,12 @@ pub statement-fault-spec : {M : Type 1} → statement M
 statement-fault-spec =
     tie.close
     (tie.spec
-    slice-aggregate-read-text
-    read-text-requires
-    enum-known-verdict
-    enum-told
-    slice-aggregate-statement-count
-    statement-count-requires
+    (λ c. search needs)
+    (λ c κs. search needs)
+    (λ c. search needs)
+    (λ c. search needs)
+    (λ c. search needs)
+    (λ c κs. search needs)
     returns
     returns-2
     returns-3)

@@ -5,28 +5,10 @@ use borrow.Author.Needs.{needs}
 use Rattle.cishmolaq.proofs.write_refusal.Statement.{statement}
 use Rattle.cishmolaq.proofs.write_refusal.Tie as tie
 
-slice-relend-prefix-write-refusal : tie.Need-slice-relend-prefix-write-refusal
-slice-relend-prefix-write-refusal c = search needs
-
-slice-aggregate-write-refusal : tie.Need-slice-aggregate-write-refusal
-slice-aggregate-write-refusal c = search needs
-
-write-refusal-requires : tie.Need-write-refusal-requires
-write-refusal-requires c κs = search needs
-
-same-length : tie.Need-same-length
-same-length c = search needs
-
 returns : tie.Need-returns
 returns c =
     let a = c .before .before .before .before .before .before .args in
     print-short _ (a .out .now) _ _ (c .before .before .before .write-refusal .ensures) (c .if1 .taken)
-
-write-refusal-requires-2 : tie.Need-write-refusal-requires-2
-write-refusal-requires-2 c κs = search needs
-
-same-length-2 : tie.Need-same-length-2
-same-length-2 c = search needs
 
 returns-2 : tie.Need-returns-2
 returns-2 c =
@@ -38,11 +20,11 @@ pub write-refusal-spec : {M : Type 1} → statement M
 write-refusal-spec =
     tie.close
     (tie.spec
-    slice-relend-prefix-write-refusal
-    slice-aggregate-write-refusal
-    write-refusal-requires
-    same-length
+    (λ c. search needs)
+    (λ c. search needs)
+    (λ c κs. search needs)
+    (λ c. search needs)
     returns
-    write-refusal-requires-2
-    same-length-2
+    (λ c κs. search needs)
+    (λ c. search needs)
     returns-2)

@@ -1,23 +1,14 @@
--- The tables give the values; the count is tested before they are written.
+-- The tables give the values; their number is tested before they are written.
 use mathlib.Core.Path.{sym, _∙_}
 use Rattle.cishmolaq.specs.Laws.{values-other, values-done}
 use borrow.Author.Needs.{needs}
 use Rattle.cishmolaq.proofs.write_values.Statement.{statement}
 use Rattle.cishmolaq.proofs.write_values.Tie as tie
 
-value-count-requires : tie.Need-value-count-requires
-value-count-requires c κs = search needs
-
 returns : tie.Need-returns
 returns c = λ e.
     let a = c .before .before .before .before .before .args in
     values-other (a .text .now) (a .values .now) (a .tables .now) e (λ q. c .if1 .taken (q ∙ sym (c .before .value-count .ensures)))
-
-write-values-requires : tie.Need-write-values-requires
-write-values-requires c κs = search needs
-
-same-length : tie.Need-same-length
-same-length c = search needs
 
 returns-2 : tie.Need-returns-2
 returns-2 c = λ e.
@@ -26,4 +17,4 @@ returns-2 c = λ e.
 
 pub write-values-spec : {M : Type 1} → statement M
 write-values-spec =
-    tie.close (tie.spec value-count-requires returns write-values-requires same-length returns-2)
+    tie.close (tie.spec (λ c κs. search needs) returns (λ c κs. search needs) (λ c. search needs) returns-2)

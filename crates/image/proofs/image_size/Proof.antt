@@ -1,8 +1,8 @@
--- `image_size` meets its contract: a pair a statement, three words a method, behind the three pairs.
+-- `image_size` meets its contract: a pair for each statement and three words for each method, after the three pairs.
 use Prim.Native.Nat.{_≤_}
 use native.Mathlib.Omega.{arith}
 use borrow.Author.Needs.{needs}
-use Rattle.words.specs.View.{classCount}
+use Rattle.catalog.specs.View.{classCount}
 use Rattle.image.specs.Sizes.{total-methods-le, image-length}
 use Rattle.image.proofs.image_size.Statement.{statement}
 use Rattle.image.proofs.image_size.Tie as tie

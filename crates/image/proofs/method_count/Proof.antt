@@ -3,8 +3,8 @@ use Prim.Native.Nat.{_-_, _≤_}
 use mathlib.Core.Path.{_≡_, refl, ap, _∙_}
 use native.Mathlib.Omega.{arith}
 use borrow.Author.Needs.{needs}
-use Rattle.words.specs.View.{classCount, memberCount}
-use Rattle.image.specs.Each.{total, total-more}
+use Rattle.catalog.specs.View.{classCount, memberCount}
+use Rattle.output.specs.Each.{total, total-more}
 use Rattle.image.specs.Cells.{members-le}
 use Rattle.image.specs.Sizes.{total-methods-le}
 use Rattle.image.proofs.method_count.Statement.{statement}

@@ -1,6 +1,6 @@
--- `put_pairs` meets its contract: three pairs, one behind the other.
+-- `put_pairs` meets its contract: three pairs, one after the other.
 use borrow.Author.Needs.{needs}
-use Rattle.image.specs.Append.{appended-then}
+use Rattle.output.specs.Append.{appended-then}
 use Rattle.image.proofs.put_pairs.Statement.{statement}
 use Rattle.image.proofs.put_pairs.Tie as tie
 

@@ -4,10 +4,10 @@ use mathlib.Core.Path.{_≡_, ap}
 use mathlib.Core.List.{List, flatMap}
 use native.Mathlib.Omega.{arith}
 use borrow.Author.Needs.{needs}
-use Rattle.words.specs.View.{statementWord, statementCount}
-use Rattle.image.specs.Written.{numbers, placeBytes, placesFrom}
-use Rattle.image.specs.Each.{each-le}
-use Rattle.image.specs.Append.{Appended, appended-as, appended-length, each-first, each-next}
+use Rattle.catalog.specs.View.{statementWord, statementCount}
+use Rattle.output.specs.Each.{numbers, each-le}
+use Rattle.image.specs.Written.{placeBytes, placesFrom}
+use Rattle.output.specs.Append.{Appended, appended-as, appended-length, each-first, each-next}
 use Rattle.image.proofs.put_places.Statement.{statement}
 use Rattle.image.proofs.put_places.Tie as tie
 

@@ -4,15 +4,16 @@ use mathlib.Core.Path.{_≡_, refl, ap, _∙_}
 use mathlib.Core.List.{List}
 use native.Mathlib.Omega.{arith}
 use borrow.Author.Needs.{needs}
-use Rattle.words.specs.View.{objectWord, objectCount}
-use Rattle.words.specs.Look.{shownCount}
-use Rattle.image.specs.Each.{total, total-more}
+use Rattle.layout.specs.Layout.{objectClassAt}
+use Rattle.catalog.specs.View.{objectWord, objectCount}
+use Rattle.catalog.specs.Look.{shownCount}
+use Rattle.output.specs.Each.{total, total-more}
 use Rattle.image.specs.Sizes.{shown-le, values-le}
 use Rattle.image.proofs.value_count.Statement.{statement}
 use Rattle.image.proofs.value_count.Tie as tie
 
 abbrev fieldsOf : List ℕ → ℕ → ℕ
-fieldsOf ws o = shownCount ws (objectWord ws o 1) 0
+fieldsOf ws o = shownCount ws (objectWord ws o objectClassAt) 0
 
 abbrev Inv-loop : tie.InvT-loop
 Inv-loop tables objects count₀ object₀ count object =
@@ -29,13 +30,13 @@ counted : (c : tie.After-shown-count Inv-loop μ-loop)
     → c .shown-count .result ≡ fieldsOf (c .before .before .before .before .before .before .args .tables .now) (c .before .before .before .loop .object)
 counted c =
     let ws = c .before .before .before .before .before .before .args .tables .now in
-    c .shown-count .ensures ∙ ap (λ (k : ℕ). shownCount ws k 0) (c .before .object-word .ensures)
+    c .shown-count .ensures ∙ ap (λ (k : ℕ). shownCount ws k 0) (c .before .class-of .ensures)
 
 add-count : tie.Need-add-count Inv-loop μ-loop
 add-count c =
     let h = c .before .before .before in
     let ws = h .before .before .before .args .tables .now in
-    omega (arith, counted c, shown-le ws (objectWord ws (h .loop .object) 1) 0, values-le ws (h .loop .object))
+    omega (arith, counted c, shown-le ws (objectWord ws (h .loop .object) objectClassAt) 0, values-le ws (h .loop .object))
 
 loop-again : tie.Need-loop-again Inv-loop μ-loop
 loop-again c =

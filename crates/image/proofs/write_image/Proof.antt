@@ -1,9 +1,9 @@
--- `write_image` meets its contract: the pairs and the three parts, one behind the other, from the front on.
+-- `write_image` meets its contract: the pairs and the three parts, one after the other, from the front on.
 use native.Mathlib.Omega.{arith}
 use borrow.Author.Needs.{needs}
-use Rattle.words.specs.View.{classCount}
+use Rattle.catalog.specs.View.{classCount}
 use Rattle.image.specs.Written.{imageFrom, masksFrom}
-use Rattle.image.specs.Append.{appended-then, appended-as, appended-over}
+use Rattle.output.specs.Append.{appended-then, appended-as, appended-over}
 use Rattle.image.specs.Sizes.{total-methods-le, places-length, masks-length, image-pairs}
 use Rattle.image.proofs.write_image.Statement.{statement}
 use Rattle.image.proofs.write_image.Tie as tie

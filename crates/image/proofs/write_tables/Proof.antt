@@ -1,7 +1,7 @@
 -- `write_tables` meets its contract: the lines of all methods, from the front on.
 use borrow.Author.Needs.{needs}
 use Rattle.image.specs.Written.{tablesFrom}
-use Rattle.image.specs.Append.{appended-printed}
+use Rattle.output.specs.Append.{appended-printed}
 use Rattle.image.proofs.write_tables.Statement.{statement}
 use Rattle.image.proofs.write_tables.Tie as tie
 

@@ -4,9 +4,10 @@ use mathlib.Core.Path.{_≡_, ap}
 use mathlib.Core.List.{flatMap}
 use native.Mathlib.Omega.{arith}
 use borrow.Author.Needs.{needs}
-use Rattle.words.specs.View.{objectCount}
-use Rattle.image.specs.Written.{numbers, valuesFrom, startingFrom}
-use Rattle.image.specs.Append.{Appended, appended-as, appended-length, appended-over, each-first, each-next}
+use Rattle.catalog.specs.View.{objectCount}
+use Rattle.output.specs.Each.{numbers}
+use Rattle.image.specs.Written.{valuesFrom, startingFrom}
+use Rattle.output.specs.Append.{Appended, appended-as, appended-length, appended-over, each-first, each-next}
 use Rattle.image.specs.Sizes.{starting-le}
 use Rattle.image.proofs.write_values.Statement.{statement}
 use Rattle.image.proofs.write_values.Tie as tie

@@ -1,23 +1,24 @@
--- `judge` meets its contract: at each turn the pass over the lines left, with what the tables say, answers what the pass over all
--- lines answers. Each statement so far took 8 bytes, so that there is room for the next.
+-- `judge` meets its contract: at each turn the pass over the lines left, with the library in the tables, answers what the pass
+-- over all lines answers. Each statement so far took 8 bytes, so there is room for the next.
 use borrow.Author.Needs.{needs}
 use Prim.Native.Nat.{_+_, _-_, _*_, _≤_, _<_}
 use mathlib.Core.Path.{_≡_, sym, ap, _∙_}
 use native.Mathlib.Omega.{arith}
 use lib.ListN.{length, drop}
+use Rattle.layout.specs.Layout.{statementsMost, tableWords}
 use Rattle.model.specs.Library.{Library, nothing}
 use Rattle.model.specs.Read.{judged}
-use Rattle.lex.specs.Scan.{isByte, before}
-use Rattle.words.specs.View.{statementCount, libraryOf}
-use Rattle.words.specs.Look.{statement-count}
-use Rattle.bodies.specs.Below.{linesAt}
+use Rattle.text_lex.specs.Scan.{isByte, before}
+use Rattle.catalog.specs.View.{statementCount, libraryOf}
+use Rattle.catalog.specs.Look.{statement-count}
+use Rattle.read_lines.specs.Below.{linesAt}
 use Rattle.reader.specs.Judging.{judged-end, judged-fault, judged-more, statements-within, nothing-yet}
 use Rattle.reader.proofs.judge.Statement.{statement}
 use Rattle.reader.proofs.judge.Tie as tie
 
 abbrev Inv-loop : tie.InvT-loop
 Inv-loop text tables₀ number₀ at₀ end₀ tables number at end =
-    (number ≤ at + 1) × (end ≡ at + before (isByte 10) (drop at text)) × (length tables ≡ 8072)
+    (number ≤ at + 1) × (end ≡ at + before (isByte 10) (drop at text)) × (length tables ≡ tableWords)
     × (length (libraryOf text tables .statements) * 8 ≤ at)
     × (judged (libraryOf text tables) number (linesAt text at) ≡ judged nothing 1 (linesAt text 0))
 
@@ -33,11 +34,8 @@ loop-holds c =
     let n = ap (λ (l : Library). length (l .statements)) e in
     (omega arith, c .line-end .ensures, search needs, omega (arith, n), ap (λ (l : Library). judged l 1 (linesAt s 0)) e)
 
-take-line-requires : tie.Need-take-line-requires Inv-loop μ-loop
-take-line-requires c κs = search needs
-
--- There is room for a statement more.
-room : (c : tie.After-take-line-arg Inv-loop μ-loop) → statementCount (c .before .before .loop .tables) < 4096
+-- There is room for one more statement.
+room : (c : tie.After-take-line-arg Inv-loop μ-loop) → statementCount (c .before .before .loop .tables) < statementsMost
 room c =
     let h = c .before .before in
     let s = h .before .before .before .before .before .before .before .before .args .text .now in
@@ -54,15 +52,6 @@ returns c =
     sym (l .inv .4)
     ∙ judged-fault s (l .at) (l .end) (l .inv .1) (t .loop-test .taken) (l .tables)
     (f .take-line .result) (f .take-line .last .1 .0) (f .take-line .ensures (room (f .before))) (l .number) (c .if1 .taken)
-
-add-number : tie.Need-add-number Inv-loop μ-loop
-add-number c = omega arith
-
-add-at : tie.Need-add-at Inv-loop μ-loop
-add-at c = omega arith
-
-loop-less : tie.Need-loop-less Inv-loop μ-loop
-loop-less c = omega arith
 
 loop-again : tie.Need-loop-again Inv-loop μ-loop
 loop-again c =
@@ -99,13 +88,13 @@ judge-spec =
     (λ c κs. search needs)
     (λ c κs. search needs)
     loop-holds
-    take-line-requires
+    (λ c κs. search needs)
     (λ c. search needs)
     returns
-    add-number
-    add-at
+    (λ c. omega arith)
+    (λ c. omega arith)
     (λ c κs. search needs)
-    loop-less
+    (λ c. omega arith)
     loop-again
     (λ c. search needs)
     returns-2)

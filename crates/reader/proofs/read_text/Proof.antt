@@ -1,4 +1,4 @@
--- `read_text` meets its contract: 11, then 12, then the second pass, as the reading has them.
+-- `read_text` meets its contract: 11, then 12, then the second pass, as in the model's reading.
 use borrow.Author.Needs.{needs}
 use Rattle.reader.specs.Verdicts.{too-long, misplaced, second-pass}
 use Rattle.reader.proofs.read_text.Statement.{statement}

@@ -1,10 +1,10 @@
--- `take_line` meets its contract, kind by kind: each line function promises what its kind asks.
+-- `take_line` meets its contract, kind by kind: the contract of each line function is what its kind requires.
 use borrow.Author.Needs.{needs}
 use Prim.Native.Nat.{ℕ}
 use mathlib.Core.Path.{_≡_, refl, sym, ap, _∙_}
 use mathlib.Core.List.{List}
-use Rattle.syntax.specs.declared.form.Kind.{Kind}
-use Rattle.syntax.specs.Kinds.{said}
+use Rattle.text_syntax.specs.declared.form.Kind.{Kind}
+use Rattle.text_syntax.specs.Kinds.{said}
 use Rattle.reader.specs.Judging.{Promised, LineTook, by-kind}
 use Rattle.reader.proofs.take_line.Statement.{statement}
 use Rattle.reader.proofs.take_line.Tie as tie

@@ -1,4 +1,4 @@
--- `mark` meets its contract: its three ways are the three cases of the definition.
+-- `mark` meets its contract: its three branches are the three cases of the definition.
 use mathlib.Core.Path.{sym, _∙_}
 use borrow.Author.Needs.{needs}
 use Rattle.image.proofs.method.mark.Statement.{statement}

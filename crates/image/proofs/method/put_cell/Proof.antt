@@ -3,7 +3,7 @@ use mathlib.Core.List.{_++_}
 use mathlib.Core.Path.{ap}
 use borrow.Author.Needs.{needs}
 use Rattle.model.specs.Image.{u32Bytes}
-use Rattle.image.specs.Append.{appended-as}
+use Rattle.output.specs.Append.{appended-as}
 use Rattle.image.proofs.method.put_cell.Statement.{statement}
 use Rattle.image.proofs.method.put_cell.Tie as tie
 

@@ -4,9 +4,10 @@ use mathlib.Core.Path.{_≡_, ap}
 use mathlib.Core.List.{flatMap}
 use native.Mathlib.Omega.{arith}
 use borrow.Author.Needs.{needs}
-use Rattle.words.specs.View.{classCount}
-use Rattle.image.specs.Written.{numbers, eachMethod}
-use Rattle.image.specs.Append.{Appended, appended-as, appended-length, each-first, each-next}
+use Rattle.catalog.specs.View.{classCount}
+use Rattle.output.specs.Each.{numbers}
+use Rattle.image.specs.Written.{eachMethod}
+use Rattle.output.specs.Append.{Appended, appended-as, appended-length, each-first, each-next}
 use Rattle.image.specs.Cells.{methodsFrom, classes-le}
 use Rattle.image.proofs.method.put_classes.Statement.{statement}
 use Rattle.image.proofs.method.put_classes.Tie as tie

@@ -1,14 +1,14 @@
--- `put_flags` meets its contract: the marks of the mask read, and behind them the line feed.
+-- `put_flags` meets its contract: the marks of the mask that is read, then the line feed.
 use Prim.Native.Nat.{_≤_}
 use mathlib.Core.Path.{_∙_}
 use mathlib.Core.List.{map}
 use native.Mathlib.Omega.{arith}
 use borrow.Author.Needs.{needs}
 use Rattle.model.specs.Tables.{yesOrNo}
-use Rattle.words.specs.View.{bit}
-use Rattle.words.specs.Upto.{length-upto}
-use Rattle.image.specs.Written.{numbers}
-use Rattle.image.specs.Append.{appended-then, appended-as}
+use Rattle.laws.specs.Bits.{bit}
+use Rattle.laws.specs.Upto.{length-upto}
+use Rattle.output.specs.Each.{numbers}
+use Rattle.output.specs.Append.{appended-then, appended-as}
 use Rattle.image.specs.Cells.{markOf, flags-marked, members-le}
 use Rattle.image.proofs.method.put_flags.Statement.{statement}
 use Rattle.image.proofs.method.put_flags.Tie as tie

@@ -1,6 +1,6 @@
--- `put_letters` meets its contract: its two ways are the two cases of the definition.
+-- `put_letters` meets its contract: its two branches are the two cases of the definition.
 use borrow.Author.Needs.{needs}
-use Rattle.image.specs.Append.{appended-as}
+use Rattle.output.specs.Append.{appended-as}
 use Rattle.image.specs.Cells.{letters-none, letters-marked}
 use Rattle.image.proofs.method.put_letters.Statement.{statement}
 use Rattle.image.proofs.method.put_letters.Tie as tie

@@ -3,7 +3,7 @@ use Prim.Native.Nat.{_+_, _≤_}
 use mathlib.Core.Path.{ap}
 use native.Mathlib.Omega.{arith}
 use borrow.Author.Needs.{needs}
-use Rattle.image.specs.Append.{appended-then, appended-as}
+use Rattle.output.specs.Append.{appended-then, appended-as}
 use Rattle.image.specs.Cells.{nameFrom, named-le, vector-le, line-pieces}
 use Rattle.image.proofs.method.put_line.Statement.{statement}
 use Rattle.image.proofs.method.put_line.Tie as tie

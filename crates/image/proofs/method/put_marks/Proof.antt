@@ -1,12 +1,12 @@
--- `put_marks` meets its contract: at each turn the marks of the places before stand in the list.
+-- `put_marks` meets its contract: at each turn the marks of the places before are in the list.
 use Prim.Native.Nat.{ℕ, _-_, _≤_}
 use mathlib.Core.Path.{_≡_, sym, ap, _∙_}
 use mathlib.Core.List.{[], _∷_, _++_}
 use native.Mathlib.Omega.{arith}
 use borrow.Author.Needs.{needs}
 use Rattle.model.specs.Base.{upto}
-use Rattle.words.specs.Upto.{length-upto, upto-more}
-use Rattle.image.specs.Append.{Appended, appended-none, appended-then, appended-as, appended-length}
+use Rattle.laws.specs.Upto.{length-upto, upto-more}
+use Rattle.output.specs.Append.{Appended, appended-none, appended-then, appended-as, appended-length}
 use Rattle.image.specs.Cells.{markOf}
 use Rattle.image.proofs.method.put_marks.Statement.{statement}
 use Rattle.image.proofs.method.put_marks.Tie as tie

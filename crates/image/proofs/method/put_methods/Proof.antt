@@ -4,9 +4,9 @@ use mathlib.Core.Path.{_≡_, ap}
 use mathlib.Core.List.{flatMap}
 use native.Mathlib.Omega.{arith}
 use borrow.Author.Needs.{needs}
-use Rattle.words.specs.View.{memberCount}
-use Rattle.image.specs.Written.{numbers}
-use Rattle.image.specs.Append.{Appended, appended-as, appended-length, each-first, each-next}
+use Rattle.catalog.specs.View.{memberCount}
+use Rattle.output.specs.Each.{numbers}
+use Rattle.output.specs.Append.{Appended, appended-as, appended-length, each-first, each-next}
 use Rattle.image.specs.Cells.{cellFrom, members-le, methods-le}
 use Rattle.image.proofs.method.put_methods.Statement.{statement}
 use Rattle.image.proofs.method.put_methods.Tie as tie

@@ -1,9 +1,9 @@
--- `put_name` meets its contract: the name's bytes, and behind them the space.
+-- `put_name` meets its contract: the name's bytes, then the space.
 use mathlib.Core.Path.{ap}
 use native.Mathlib.Omega.{arith}
 use lib.ListN.{length}
 use borrow.Author.Needs.{needs}
-use Rattle.image.specs.Append.{appended-then, appended-as}
+use Rattle.output.specs.Append.{appended-then, appended-as}
 use Rattle.image.specs.Cells.{name-le}
 use Rattle.image.proofs.method.put_name.Statement.{statement}
 use Rattle.image.proofs.method.put_name.Tie as tie

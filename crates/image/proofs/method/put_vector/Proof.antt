@@ -1,9 +1,9 @@
--- `put_vector` meets its contract: the letters of the words read, and behind them the space.
+-- `put_vector` meets its contract: the letters of the masks that are read, then the space.
 use Prim.Native.Nat.{_≤_}
 use native.Mathlib.Omega.{arith}
 use borrow.Author.Needs.{needs}
 use Rattle.image.specs.Written.{lettersFrom}
-use Rattle.image.specs.Append.{appended-then, appended-as}
+use Rattle.output.specs.Append.{appended-then, appended-as}
 use Rattle.image.specs.Cells.{members-le, letters-le}
 use Rattle.image.proofs.method.put_vector.Statement.{statement}
 use Rattle.image.proofs.method.put_vector.Tie as tie

@@ -5,12 +5,13 @@ use mathlib.Core.List.{List, [], _∷_, _++_}
 use native.Mathlib.Omega.{arith}
 use lib.ListN.{drop, getD}
 use borrow.Author.Needs.{needs}
+use Rattle.layout.specs.Layout.{objectClassAt, objectLineAt}
 use Rattle.model.specs.Base.{upto}
-use Rattle.lex.specs.Piece.{wordsAfter}
-use Rattle.words.specs.View.{partOf, valueOf, objectWord}
-use Rattle.words.specs.Upto.{upto-more}
-use Rattle.words.specs.Look.{shownCount}
-use Rattle.image.specs.Append.{Appended, appended-then, appended-as, appended-length}
+use Rattle.text_lex.specs.Piece.{wordsAfter}
+use Rattle.catalog.specs.View.{partOf, valueOf, objectWord}
+use Rattle.laws.specs.Upto.{upto-more}
+use Rattle.catalog.specs.Look.{shownCount}
+use Rattle.output.specs.Append.{Appended, appended-then, appended-as, appended-length}
 use Rattle.image.specs.Sizes.{shown-le}
 use Rattle.image.specs.Values.{values-counted, word-at, words-behind}
 use Rattle.image.proofs.value.put_values.Statement.{statement}
@@ -33,7 +34,7 @@ unfolding upto
 loop-holds c =
     let n = c .before .before in
     let ws = n .before .before .before .before .before .args .tables .now in
-    (omega arith, omega (arith, n .shown-count .ensures, shown-le ws (n .before .object-word .result) 0), refl, record { stored = refl; behind = omega arith })
+    (omega arith, omega (arith, n .shown-count .ensures, shown-le ws (n .before .class-of .result) 0), refl, record { stored = refl; behind = omega arith })
 
 loop-again : tie.Need-loop-again Inv-loop μ-loop
 loop-again c =
@@ -64,9 +65,9 @@ returns c =
     let a = n .before .before .before .before .before .args in
     let text = a .text .now in
     let ws = a .tables .now in
-    let count : h .loop .field ≡ shownCount ws (objectWord ws (a .object) 1) 0 =
-    omega (arith, n .shown-count .ensures ∙ ap (λ (k : ℕ). shownCount ws k 0) (n .before .object-word .ensures)) in
-    let line : f .part-of .result .now ≡ partOf text (objectWord ws (a .object) 3) = f .part-of .ensures ∙ ap (partOf text) (o .object-word2 .ensures) in
+    let count : h .loop .field ≡ shownCount ws (objectWord ws (a .object) objectClassAt) 0 =
+    omega (arith, n .shown-count .ensures ∙ ap (λ (k : ℕ). shownCount ws k 0) (n .before .class-of .ensures)) in
+    let line : f .part-of .result .now ≡ partOf text (objectWord ws (a .object) objectLineAt) = f .part-of .ensures ∙ ap (partOf text) (o .object-word .ensures) in
     appended-as ((λ i. upto (saidIn (line i)) (count i)) ∙ values-counted text ws (a .object)) (h .loop .inv .3)
 
 pub put-values-spec : {M : Type 1} → statement M

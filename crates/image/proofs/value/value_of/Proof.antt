@@ -1,8 +1,8 @@
--- `value_of` meets its contract: the value is what `number_of` says, and 0 where it says none.
+-- `value_of` meets its contract: the value is what `number_of` answers, and 0 where that is no number.
 use borrow.Author.Needs.{needs}
 use mathlib.Core.Path.{sym, ap, _∙_}
-use Rattle.lex.specs.declared.Number.{Number}
-use Rattle.lex.specs.Number.{said}
+use Rattle.text_lex.specs.declared.Number.{Number}
+use Rattle.text_lex.specs.Number.{said}
 use Rattle.image.specs.Values.{orZero, value-said}
 use Rattle.image.proofs.value.value_of.Statement.{statement}
 use Rattle.image.proofs.value.value_of.Tie as tie

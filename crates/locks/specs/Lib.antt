@@ -1,4 +1,0 @@
-pub mod Asked
-pub mod Clashing
-pub mod Locking
-pub mod Begun

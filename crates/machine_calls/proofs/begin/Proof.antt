@@ -1,0 +1,43 @@
+-- `begin` meets its contract: the tests in the order of the numbers, then the slot is opened.
+use borrow.Author.Needs.{needs}
+use mathlib.Core.Path.{refl}
+use Rattle.machine_checks.specs.Phases.{within, refused-first, when-closed, when-open, leaves-as}
+use Rattle.machine_calls.proofs.begin.Statement.{statement}
+use Rattle.machine_calls.proofs.begin.Tie as tie
+
+returns : tie.Need-returns
+returns c = leaves-as (refused-first _ _ _ _ _ (c .before .refusal .ensures) (c .if1 .taken)) (record { says = refl; words-are = refl; values-are = refl })
+
+returns-2 : tie.Need-returns-2
+returns-2 c =
+    let f = c .before in
+    let e = f .before .before in
+    leaves-as (when-open _ _ _ _ _ (e .before .refusal .ensures) (e .if1 .left) _ (f .phase-of .ensures) _ refl refl (c .if2 .taken)) (record { says = refl; words-are = refl; values-are = refl })
+
+open-slot-requires : tie.Need-open-slot-requires
+open-slot-requires c κs =
+    let e = c .before .before .before .before in
+    within _ _ _ _ _ (e .before .refusal .ensures) (e .if1 .left)
+
+returns-3 : tie.Need-returns-3
+returns-3 c =
+    let l = c .before .before in
+    let i = l .before .before in
+    let f = i .before in
+    let e = f .before .before in
+    leaves-as (when-closed _ _ _ _ _ (e .before .refusal .ensures) (e .if1 .left) _ (f .phase-of .ensures) (i .if2 .left))
+    (record { says = refl; words-are = l .open-slot .ensures; values-are = refl })
+
+pub begin-spec : {M : Type 1} → statement M
+begin-spec =
+    tie.close
+    (tie.spec
+    (λ c κs. search needs)
+    (λ c. search needs)
+    returns
+    (λ c κs. search needs)
+    (λ c. search needs)
+    returns-2
+    open-slot-requires
+    (λ c. search needs)
+    returns-3)

@@ -1,0 +1,54 @@
+-- `step` meets its contract: the tests in the order of the numbers, then the message's next step.
+use borrow.Author.Needs.{needs}
+use mathlib.Core.Path.{refl}
+use Rattle.machine_checks.specs.Phases.{within, refused-first, when-closed, when-idle, when-running, leaves-as}
+use Rattle.machine_calls.proofs.step.step.Statement.{statement}
+use Rattle.machine_calls.proofs.step.step.Tie as tie
+
+returns : tie.Need-returns
+returns c = leaves-as (refused-first _ _ _ _ _ (c .before .refusal .ensures) (c .if1 .taken)) (record { says = refl; words-are = refl; values-are = refl })
+
+returns-2 : tie.Need-returns-2
+returns-2 c =
+    let f = c .before in
+    let e = f .before .before in
+    leaves-as (when-closed _ _ _ _ _ (e .before .refusal .ensures) (e .if1 .left) _ (f .phase-of .ensures) (c .if2 .taken)) (record { says = refl; words-are = refl; values-are = refl })
+
+returns-3 : tie.Need-returns-3
+returns-3 c =
+    let f = c .before .before in
+    let e = f .before .before in
+    leaves-as (when-idle _ _ _ _ _ (e .before .refusal .ensures) (e .if1 .left) _ (f .phase-of .ensures) (c .if3 .taken)) (record { says = refl; words-are = refl; values-are = refl })
+
+advance-requires : tie.Need-advance-requires
+advance-requires c κs =
+    let e = c .before .before .before .before .before .before in
+    within _ _ _ _ _ (e .before .refusal .ensures) (e .if1 .left)
+
+returns-4 : tie.Need-returns-4
+returns-4 c =
+    let l = c .before .before .before .before in
+    let i = l .before .before .before in
+    let f = i .before .before in
+    let e = f .before .before in
+    leaves-as (when-running _ _ _ _ _ (e .before .refusal .ensures) (e .if1 .left) _ (f .phase-of .ensures) (i .before .if2 .left) (i .if3 .left)) (l .advance .ensures)
+
+pub step-spec : {M : Type 1} → statement M
+step-spec =
+    tie.close
+    (tie.spec
+    (λ c κs. search needs)
+    (λ c. search needs)
+    (λ c. search needs)
+    returns
+    (λ c κs. search needs)
+    (λ c. search needs)
+    (λ c. search needs)
+    returns-2
+    (λ c. search needs)
+    (λ c. search needs)
+    returns-3
+    advance-requires
+    (λ c. search needs)
+    (λ c. search needs)
+    returns-4)

@@ -1,0 +1,59 @@
+// The call step: the next statement of a slot's message, or the end of a body.
+use machine_apply::Said;
+use machine_checks::Outcome;
+ghost use mathlib.Core.Path.{_≡_};
+ghost use Rattle.model.specs.Service.{step};
+ghost use Rattle.machine_words.specs.Row.{carried};
+ghost use Rattle.machine_words.specs.Turn.{decided};
+ghost use Rattle.machine_words.specs.Calls.{tablesOf, rowOf, laid, called};
+ghost use Rattle.machine_apply.specs.Carried.{said};
+ghost use Rattle.machine_checks.specs.Told.{told, Leaves};
+ghost use Rattle.machine_checks.specs.Lent.{Within};
+
+// The outcome for what a step answers.
+fn outcome_of(step: Said) -> Outcome
+    ensures { λ r. ⌜ told r ≡ said step ⌝ }
+{
+    match step {
+        Said::Unfit => Outcome::Refused(24),
+        Said::Going => Outcome::Going,
+        Said::Halted => Outcome::Stopped,
+        Said::Answered(value) => Outcome::Answer(value),
+    }
+}
+
+// Runs the next step of a slot's message: decides it, then carries it out.
+fn advance(text: &[u8], state: &mut [u32], values: &mut [u32], slot: u32) -> Outcome
+    requires { ⌜ Within (now state) slot ⌝ }
+    ensures { λ r. ⌜ Leaves (laid (now (state .entry)) slot (carried (rowOf (now (state .entry)) slot) (now (values .entry))
+        (decided (now (text .entry)) (tablesOf (now (state .entry))) (rowOf (now (state .entry)) slot) (now (values .entry))))) r (now (state .exit)) (now (values .exit)) ⌝ }
+{
+    let start = layout::TABLE_WORDS + slot as usize * layout::ROW_WORDS;
+    let end = start + layout::ROW_WORDS;
+    let turn = machine_decide::decide(
+        text,
+        &state[0..layout::TABLE_WORDS],
+        &state[start..end],
+        values,
+    );
+    let said = machine_apply::carry(&mut state[start..end], values, turn);
+    outcome_of(said)
+}
+
+// Runs one statement of a slot's message, or ends a body.
+pub fn step(text: &[u8], state: &mut [u32], values: &mut [u32], slot: u32) -> Outcome
+    ensures { λ r. ⌜ Leaves (called (now (text .entry)) (now (state .entry)) (now (values .entry)) (step slot)) r (now (state .exit)) (now (values .exit)) ⌝ }
+{
+    let number = machine_checks::refusal(text, state, values, slot);
+    if number != 0 {
+        return Outcome::Refused(number);
+    }
+    let phase = machine_checks::phase_of(state, slot);
+    if phase == 0 {
+        return Outcome::Refused(32);
+    }
+    if phase == 1 {
+        return Outcome::Refused(35);
+    }
+    advance(text, state, values, slot)
+}

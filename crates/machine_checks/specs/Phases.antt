@@ -1,0 +1,212 @@
+-- A call stage by stage: the refusals that every call tests first, then what it does by its slot's phase.
+use Prim.Native.Nat.{ℕ, zero, suc, _+_, _*_, _≤_, _<_}
+use native.Mathlib.Omega.{arith}
+use mathlib.Core.Path.{_≡_, refl, sym, ap, subst, _∙_}
+use mathlib.Core.Bool.{Bool, true, false, not, cond, _&&_}
+use mathlib.Core.List.{List}
+use lib.ListN.{length, getD}
+use lib.Seq.{getD-take, getD-drop}
+use lib.Dec.{eqb, leb, ltb, eqb·suc-zero}
+use lib.ListN.{drop}
+use borrow.Author.Tests.{eq-eqb, ne-eqb, leb-false, ltb-true, ltb-false, lt-ltb, le-ltb, lt-leb, le-leb, eqb-true, eqb-false}
+use Rattle.layout.specs.Layout.{valuesMost, valueCountAt, textLengthAt, startMarkAt, tableWords, rowWords, stateWords}
+use Rattle.model.specs.Service.{Call}
+use Rattle.model.specs.Machine.{Request}
+use Rattle.machine_words.specs.Calls.{After, mark, rowStart, rowOf, phaseOf, misfitOf, refused, onClosed, onIdle, onRunning, slotIn, byPhase, called}
+use Rattle.machine_words.specs.Rows.{fit-is}
+use Rattle.machine_checks.specs.declared.Outcome.{Outcome}
+use Rattle.machine_checks.specs.Told.{Leaves}
+use Rattle.machine_checks.specs.Lent.{Within}
+
+-- 21, 24, then 31, then 24 for an unknown phase; 0 where none of them applies.
+unfoldable pub firstRefusal : List ℕ → List ℕ → List ℕ → ℕ → ℕ
+unfolding misfitOf rowOf
+firstRefusal text ws values s =
+    let misfit = misfitOf text ws values in
+    cond (not (eqb misfit 0)) misfit (cond (leb 8 s) 31 (cond (ltb 2 (phaseOf (rowOf ws s))) 24 0))
+
+-- ---- 21, 24
+
+module _ (text ws values : List ℕ) where
+  pub misfit-short : length ws < stateWords → 21 ≡ misfitOf text ws values
+  unfolding misfitOf
+  misfit-short h = rw (lt-ltb (length ws) stateWords h)
+
+  module _ (l : stateWords ≤ length ws) (m t n : ℕ) (p : m ≡ getD ws startMarkAt 0) (q : t ≡ getD ws textLengthAt 0) (r : n ≡ getD ws valueCountAt 0) where
+    pub misfit-none : (eqb m mark && eqb t (length text) && eqb n (length values) && leb (length values) valuesMost) ≡ true → 0 ≡ misfitOf text ws values
+    unfolding misfitOf
+    misfit-none b = rw (le-ltb (length ws) stateWords l, ← p, ← q, ← r, b)
+
+    pub misfit-other : (eqb m mark && eqb t (length text) && eqb n (length values) && leb (length values) valuesMost) ≡ false → 24 ≡ misfitOf text ws values
+    unfolding misfitOf
+    misfit-other b = rw (le-ltb (length ws) stateWords l, ← p, ← q, ← r, b)
+
+-- ---- 31, and 24 by the phase
+
+module _ (text ws values : List ℕ) (s m : ℕ) (e : m ≡ misfitOf text ws values) where
+  pub first-misfit : (m ≡ 0 → ⊥) → m ≡ firstRefusal text ws values s
+  unfolding firstRefusal
+  first-misfit z = rw (← e, ne-eqb m 0 z)
+
+  module _ (z : m ≡ 0) where
+    pub first-slot : 8 ≤ s → 31 ≡ firstRefusal text ws values s
+    unfolding firstRefusal
+    first-slot h = rw (← e, z, le-leb 8 s h)
+
+    module _ (h : s < 8) (f : ℕ) (q : f ≡ phaseOf (rowOf ws s)) where
+      pub first-phase : 2 < f → 24 ≡ firstRefusal text ws values s
+      unfolding firstRefusal
+      first-phase l = rw (← e, z, lt-leb 8 s h, ← q, lt-ltb 2 f l)
+
+      pub first-none : f ≤ 2 → 0 ≡ firstRefusal text ws values s
+      unfolding firstRefusal
+      first-none l = rw (← e, z, lt-leb 8 s h, ← q, le-ltb 2 f l)
+
+-- ---- by the phase
+
+module _ (text ws values : List ℕ) (s n : ℕ) (e : n ≡ firstRefusal text ws values s) (z : n ≡ 0) where
+  none-first : (misfitOf text ws values ≡ 0) × (s < 8) × (phaseOf (rowOf ws s) ≤ 2)
+  unfolding firstRefusal
+  none-first = go (misfitOf text ws values) refl (leb 8 s) refl (ltb 2 (phaseOf (rowOf ws s))) refl
+    where
+      go : (m : ℕ) → misfitOf text ws values ≡ m → (a : Bool) → leb 8 s ≡ a → (b : Bool) → ltb 2 (phaseOf (rowOf ws s)) ≡ b
+          → (misfitOf text ws values ≡ 0) × (s < 8) × (phaseOf (rowOf ws s) ≤ 2)
+      go zero p false q false r = (p, leb-false 8 s q, ltb-false 2 (phaseOf (rowOf ws s)) r)
+      go zero p false q true r =
+          let n24 : firstRefusal text ws values s ≡ 24 = rw (p, q, r) in
+          absurd (omega arith)
+      go zero p true q b r =
+          let n31 : firstRefusal text ws values s ≡ 31 = rw (p, q) in
+          absurd (omega arith)
+      go (suc m) p a q b r =
+          let other : firstRefusal text ws values s ≡ suc m = rw (p, eqb·suc-zero m) in
+          absurd (omega arith)
+
+  -- Where none of the first refusals applies, the slot exists, with its row.
+  pub within : Within ws s
+  within = record { slot = none-first .1; long = fit-is text ws values (none-first .0) .long }
+
+-- A phase above 2 is unknown.
+phase-none : (text ws values : List ℕ) (c : Call Request) (f : ℕ) → 2 < f → byPhase text ws values c f ≡ refused ws values 24
+phase-none text ws values c f h = rw (ne-eqb f 0 (λ e. omega arith), ne-eqb f 1 (λ e. omega arith), ne-eqb f 2 (λ e. omega arith))
+
+module _ (text ws values : List ℕ) (c : Call Request) (n : ℕ) (e : n ≡ firstRefusal text ws values (slotIn c)) where
+  abbrev row-phase : ℕ
+  row-phase = phaseOf (rowOf ws (slotIn c))
+
+  pub refused-first : (n ≡ 0 → ⊥) → refused ws values n ≡ called text ws values c
+  unfolding called firstRefusal
+  refused-first z = go (eqb (misfitOf text ws values) 0) refl (leb 8 (slotIn c)) refl (ltb 2 row-phase) refl
+    where
+      go : (a : Bool) → eqb (misfitOf text ws values) 0 ≡ a → (b : Bool) → leb 8 (slotIn c) ≡ b → (d : Bool) → ltb 2 row-phase ≡ d
+          → refused ws values n ≡ called text ws values c
+      go false p b q d r = rw p (ap (refused ws values) (e ∙ rw p))
+      go true p true q d r = rw (p, q) (ap (refused ws values) (e ∙ rw (p, q)))
+      go true p false q true r = rw (p, q) (ap (refused ws values) (e ∙ rw (p, q, r)) ∙ sym (phase-none text ws values c row-phase (ltb-true 2 row-phase r)))
+      go true p false q false r = absurd (z (e ∙ rw (p, q, r)))
+
+  module _ (z : n ≡ 0) (f : ℕ) (q : f ≡ phaseOf (rowOf ws (slotIn c))) where
+    by-phase : byPhase text ws values c f ≡ called text ws values c
+    unfolding called
+    by-phase = let h = none-first text ws values (slotIn c) n e z in rw (h .0, lt-leb 8 (slotIn c) (h .1), q)
+
+    pub when-closed : f ≡ 0 → onClosed ws values c ≡ called text ws values c
+    when-closed o = rw (eq-eqb f 0 o) at by-phase
+
+    pub when-idle : f ≡ 1 → onIdle text ws values c ≡ called text ws values c
+    when-idle o = rw o at by-phase
+
+    pub when-running : (f ≡ 0 → ⊥) → (f ≡ 1 → ⊥) → onRunning text ws values c ≡ called text ws values c
+    when-running a b =
+        let h = none-first text ws values (slotIn c) n e z .2 in
+        let two : f ≡ 2 = omega arith in
+        rw two at by-phase
+
+    -- A result that is the same whether a message runs or not.
+    pub when-open : (x : After) → x ≡ onIdle text ws values c → x ≡ onRunning text ws values c → (f ≡ 0 → ⊥) → x ≡ called text ws values c
+    when-open x i r a = go (eqb f 1) refl
+      where
+        go : (b : Bool) → eqb f 1 ≡ b → x ≡ called text ws values c
+        go true t = i ∙ when-idle (eqb-true f 1 t)
+        go false t = r ∙ when-running a (eqb-false f 1 t)
+
+-- ---- commit and send, which need an open slot without a message
+
+-- The refusals that every call tests first, then 32 and 34; 0 where none of them applies.
+unfoldable pub idleRefusal : List ℕ → List ℕ → List ℕ → ℕ → ℕ
+unfolding firstRefusal rowOf
+idleRefusal text ws values s =
+    let first = firstRefusal text ws values s in
+    let phase = phaseOf (rowOf ws s) in
+    cond (not (eqb first 0)) first (cond (eqb phase 0) 32 (cond (eqb phase 1) 0 34))
+
+module _ (text ws values : List ℕ) (s m : ℕ) (e : m ≡ firstRefusal text ws values s) where
+  pub idle-first : (m ≡ 0 → ⊥) → m ≡ idleRefusal text ws values s
+  unfolding idleRefusal
+  idle-first z = rw (← e, ne-eqb m 0 z)
+
+  module _ (z : m ≡ 0) (f : ℕ) (q : f ≡ phaseOf (rowOf ws s)) where
+    pub idle-closed : f ≡ 0 → 32 ≡ idleRefusal text ws values s
+    unfolding idleRefusal
+    idle-closed o = rw (← e, z, ← q, o)
+
+    pub idle-running : (f ≡ 0 → ⊥) → (f ≡ 1 → ⊥) → 34 ≡ idleRefusal text ws values s
+    unfolding idleRefusal
+    idle-running a b = rw (← e, z, ← q, ne-eqb f 0 a, ne-eqb f 1 b)
+
+    pub idle-none : f ≡ 1 → 0 ≡ idleRefusal text ws values s
+    unfolding idleRefusal
+    idle-none o = rw (← e, z, ← q, o)
+
+module _ (text ws values : List ℕ) (c : Call Request) (n : ℕ) (e : n ≡ idleRefusal text ws values (slotIn c))
+    (closed : onClosed ws values c ≡ refused ws values 32) (running : onRunning text ws values c ≡ refused ws values 34) where
+  abbrev phase : ℕ
+  phase = phaseOf (rowOf ws (slotIn c))
+
+  by-tests : (m : ℕ) → firstRefusal text ws values (slotIn c) ≡ m → (a b : Bool) → eqb phase 0 ≡ a → eqb phase 1 ≡ b
+      → (n ≡ cond (not (eqb m 0)) m (cond a 32 (cond b 0 34)))
+  unfolding idleRefusal
+  by-tests m p a b q r = e ∙ (λ i. cond (not (eqb (p i) 0)) (p i) (cond (q i) 32 (cond (r i) 0 34)))
+
+  pub idle-refused : (n ≡ 0 → ⊥) → refused ws values n ≡ called text ws values c
+  idle-refused z = go (firstRefusal text ws values (slotIn c)) refl (eqb phase 0) refl (eqb phase 1) refl
+    where
+      go : (m : ℕ) → firstRefusal text ws values (slotIn c) ≡ m → (a : Bool) → eqb phase 0 ≡ a → (b : Bool) → eqb phase 1 ≡ b → refused ws values n ≡ called text ws values c
+      go (suc m) p a q b r =
+          let other : n ≡ suc m = by-tests (suc m) p a b q r ∙ rw (eqb·suc-zero m) in
+          refused-first text ws values c n (other ∙ sym p) z
+      go zero p true q b r =
+          ap (refused ws values) (by-tests 0 p true b q r) ∙ sym closed ∙ when-closed text ws values c 0 (sym p) refl phase refl (eqb-true phase 0 q)
+      go zero p false q false r =
+          ap (refused ws values) (by-tests 0 p false false q r) ∙ sym running ∙ when-running text ws values c 0 (sym p) refl phase refl (eqb-false phase 0 q) (eqb-false phase 1 r)
+      go zero p false q true r = absurd (z (by-tests 0 p false true q r))
+
+  module _ (z : n ≡ 0) where
+    both : (firstRefusal text ws values (slotIn c) ≡ 0) × (phase ≡ 1)
+    both = go (firstRefusal text ws values (slotIn c)) refl (eqb phase 0) refl (eqb phase 1) refl
+      where
+        go : (m : ℕ) → firstRefusal text ws values (slotIn c) ≡ m → (a : Bool) → eqb phase 0 ≡ a → (b : Bool) → eqb phase 1 ≡ b
+            → (firstRefusal text ws values (slotIn c) ≡ 0) × (phase ≡ 1)
+        go (suc m) p a q b r =
+            let other : n ≡ suc m = by-tests (suc m) p a b q r ∙ rw (eqb·suc-zero m) in
+            absurd (omega arith)
+        go zero p true q b r = let other = by-tests 0 p true b q r in absurd (omega arith)
+        go zero p false q false r = let other = by-tests 0 p false false q r in absurd (omega arith)
+        go zero p false q true r = (p, eqb-true phase 1 r)
+
+    pub idle-within : Within ws (slotIn c)
+    idle-within = within text ws values (slotIn c) 0 (sym (both .0)) refl
+
+    pub idle-on : onIdle text ws values c ≡ called text ws values c
+    idle-on = when-idle text ws values c 0 (sym (both .0)) refl phase refl (both .1)
+
+-- The slot's phase is the first word of its row.
+pub phase-is : (ws : List ℕ) (s : ℕ) → getD ws (tableWords + s * rowWords) 0 ≡ phaseOf (rowOf ws s)
+unfolding rowOf
+phase-is ws s =
+    let e : rowStart s + 0 ≡ rowStart s = omega arith in
+    sym (getD-take rowWords (drop (rowStart s) ws) 0 0 (omega arith) ∙ getD-drop (rowStart s) ws 0 0 ∙ ap (λ (i : ℕ). getD ws i 0) e)
+
+-- What leaves a result leaves an equal one too.
+pub leaves-as : {x y : After} {r : Outcome} {ws values : List ℕ} → x ≡ y → Leaves x r ws values → Leaves y r ws values
+leaves-as {x} {y} {r} {ws} {values} e h = subst (λ (a : After). Leaves a r ws values) e h

@@ -1,0 +1,27 @@
+-- `set_turn` meets its contract: the class has the field exactly if its place is below the number of fields.
+use borrow.Author.Needs.{needs}
+use Rattle.machine_decide.specs.Actions.{set-there, set-none}
+use Rattle.machine_decide.proofs.line.set_turn.Statement.{statement}
+use Rattle.machine_decide.proofs.line.set_turn.Tie as tie
+
+returns : tie.Need-returns
+returns c =
+    let m = c .before .before in
+    set-there _ _ _ _ _ _ _ _ (m .before .find .ensures) (m .member-count .ensures) (c .before .if1 .taken)
+
+returns-2 : tie.Need-returns-2
+returns-2 c =
+    let m = c .before in
+    set-none _ _ _ _ _ _ _ _ (m .before .find .ensures) (m .member-count .ensures) (c .if1 .left)
+
+pub set-turn-spec : {M : Type 1} → statement M
+set-turn-spec =
+    tie.close
+    (tie.spec
+    (λ c κs. search needs)
+    (λ c κs. search needs)
+    (λ c. search needs)
+    (λ c. search needs)
+    (λ c. search needs)
+    returns
+    returns-2)

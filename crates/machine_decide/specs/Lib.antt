@@ -1,0 +1,5 @@
+pub mod Said
+pub mod Visits
+pub mod Actions
+pub mod Lines
+pub mod Decides

@@ -1,0 +1,12 @@
+pub mod Asked
+pub mod Clashing
+pub mod Locking
+pub mod Begun
+pub mod Way
+pub mod Holders
+pub mod Granted
+pub mod Outcomes
+pub mod Unlocked
+pub mod OneObject
+pub mod Sent
+pub mod Aimed

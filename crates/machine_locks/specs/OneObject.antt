@@ -1,0 +1,36 @@
+-- A send to an existing object: its message starts on it.
+use Prim.Native.Nat.{ℕ, _-_, _<_}
+use mathlib.Core.Path.{_≡_, refl, sym, ap, _∙_}
+use mathlib.Core.Bool.{true}
+use mathlib.Core.List.{List}
+use native.Mathlib.Omega.{arith}
+use Rattle.layout.specs.Layout.{objectClassAt}
+use Rattle.catalog.specs.View.{objectWord, objectCount, memberAt}
+use Rattle.catalog.specs.declared.body.Body.the-variants.{Found}
+use Rattle.catalog.specs.Bodies.{namedAt, Bounds, by-place}
+use Rattle.machine_words.specs.Turn.{inTarget, objectFrom}
+use Rattle.machine_words.specs.Request.{Wanted, on, firstOf}
+use Rattle.machine_decide.specs.Visits.{one-there}
+use Rattle.machine_locks.specs.Begun.{first-on}
+
+-- Object o exists, and c is its class.
+pub record ObjectOf (tables : List ℕ) (o c : ℕ) : Type 0 where
+  pub there : o < objectCount tables
+  pub class-is : c ≡ objectWord tables o objectClassAt
+
+-- The send is to an existing object, and its method is one of 32.
+pub record ToObject (tables : List ℕ) (q : Wanted) : Type 0 where
+  pub kind-is : q .kind ≡ 0
+  pub object-is : ObjectOf tables (q .number) (q .class)
+  pub few : q .place < 32
+
+-- Its message starts there, with the body at the method's place.
+pub first-there : (text tables : List ℕ) (q : Wanted) → ToObject tables q → namedAt tables (q .class) (q .place) (q .name) ≡ true
+    → (first end : ℕ) → Bounds (memberAt text tables (q .class) 1 (q .place)) first end → on (q .number) first end ≡ firstOf text tables q
+unfolding objectFrom inTarget
+first-there text tables q o w first end b =
+    let h : q .number < objectCount tables = o .object-is .there in
+    let e : q .number ≡ objectFrom tables (q .kind) (q .number) 0 =
+    one-there (q .number) (objectCount tables - 0) 0 (omega arith) (omega (arith, h)) ∙ ap (λ (x : ℕ). objectFrom tables x (q .number) 0) (sym (o .kind-is)) in
+    first-on text tables q (q .number) (objectCount tables) e refl h (q .class) (o .object-is .class-is) (Found first end)
+    (by-place text tables (q .class) (q .place) (q .name) true (sym w) refl first end b)

@@ -1,0 +1,134 @@
+-- A send, test by test, with names for what the code has read by then; and a send to an existing object.
+use Prim.Native.Nat.{ℕ, _+_, _-_, _*_, _%_, _≤_, _<_}
+use native.Mathlib.Omega.{arith}
+use mathlib.Core.Path.{_≡_, refl, sym, ap, ap₂, subst, _∙_}
+use mathlib.Core.Bool.{Bool, true, false, cond}
+use mathlib.Core.List.{List}
+use lib.Dec.{leb, ltb}
+use borrow.Author.Tests.{leb-false, lt-leb, le-leb, lt-ltb, le-ltb}
+use Rattle.layout.specs.Layout.{namesAt, kindWords, methodNamesAt, objectClassAt}
+use Rattle.model.specs.Base.{least}
+use Rattle.model.specs.Machine.{object, class, domain, to}
+use Rattle.catalog.specs.View.{classWord, objectWord, classCount, objectCount, memberCount}
+use Rattle.machine_words.specs.Request.{Wanted, lacking}
+use Rattle.machine_words.specs.Calls.{After, tablesOf, refused, wanted, inTheWay, grantedOr, sentTo, sentBy}
+use Rattle.machine_locks.specs.OneObject.{ObjectOf, ToObject}
+use Rattle.machine_locks.specs.Clashing.{lacking-other}
+
+-- ---- the tests
+
+-- A send to a class's own objects or to its domain.
+unfoldable pub classSent : List ℕ → List ℕ → List ℕ → ℕ → ℕ → ℕ → ℕ → ℕ → After
+unfolding sentTo
+classSent text ws values s kind c k a =
+    cond (ltb c (classCount (tablesOf ws))) (sentTo text ws values s kind c c k a) (refused ws values 36)
+
+-- The send with its method's name from the word of the class.
+pub wanted-by : (tables : List ℕ) (kind o c k a name : ℕ) → name ≡ classWord tables c (namesAt + (1 * kindWords + k))
+    → record { kind = kind; number = o; class = c; place = k; name = name % 1048576; argument = a } ≡ wanted tables kind o c k a
+wanted-by tables kind o c k a name e =
+    let at : namesAt + (1 * kindWords + k) ≡ methodNamesAt + k = omega arith in
+    ap (λ (n : ℕ). record { kind = kind; number = o; class = c; place = k; name = n % 1048576; argument = a }) (e ∙ ap (classWord tables c) at)
+
+-- 24 where there is no class c, 36 where it has no method at place k; else 0.
+unfoldable pub methodRefusal : List ℕ → ℕ → ℕ → ℕ
+unfolding memberCount
+methodRefusal tables c k = cond (leb (classCount tables) c) 24 (cond (leb (memberCount tables c 1) k) 36 0)
+
+module _ (tables : List ℕ) (c k n : ℕ) (e : n ≡ classCount tables) where
+  pub no-class : n ≤ c → 24 ≡ methodRefusal tables c k
+  unfolding methodRefusal
+  no-class h = rw (← e, le-leb n c h)
+
+  module _ (h : c < n) (m : ℕ) (q : m ≡ memberCount tables c 1) where
+    pub no-method : m ≤ k → 36 ≡ methodRefusal tables c k
+    unfolding methodRefusal
+    no-method l = rw (← e, lt-leb n c h, ← q, le-leb m k l)
+
+    pub a-method : k < m → 0 ≡ methodRefusal tables c k
+    unfolding methodRefusal
+    a-method l = rw (← e, lt-leb n c h, ← q, lt-leb m k l)
+
+pub refusal-lt : (tables : List ℕ) (c k n : ℕ) → n ≡ methodRefusal tables c k → n < 40
+unfolding methodRefusal
+refusal-lt tables c k n e = go (leb (classCount tables) c) (leb (memberCount tables c 1) k) e
+  where
+    go : (a b : Bool) → n ≡ cond a 24 (cond b 36 0) → n < 40
+    go true b f = omega arith
+    go false true f = omega arith
+    go false false f = omega arith
+
+module _ (tables : List ℕ) (c k n : ℕ) (e : n ≡ methodRefusal tables c k) (z : n ≡ 0) where
+  passes : (leb (classCount tables) c ≡ false) × (leb (memberCount tables c 1) k ≡ false)
+  unfolding methodRefusal
+  passes = go (leb (classCount tables) c) refl (leb (memberCount tables c 1) k) refl
+    where
+      go : (x : Bool) → leb (classCount tables) c ≡ x → (y : Bool) → leb (memberCount tables c 1) k ≡ y → (x ≡ false) × (y ≡ false)
+      go true p y q = absurd (omega (arith, e, ap {B = ℕ} (λ (x : Bool). cond x 24 (cond (leb (memberCount tables c 1) k) 36 0)) p))
+      go false p true q = absurd (omega (arith, e, ap₂ {C = ℕ} (λ (x y : Bool). cond x 24 (cond y 36 0)) p q))
+      go false p false q = (refl, refl)
+
+  pub few : k < 32
+  unfolding memberCount
+  few = omega (arith, leb-false (memberCount tables c 1) k (passes .1))
+
+module _ (text ws values : List ℕ) (s k a : ℕ) where
+  pub to-class : (c : ℕ) → classSent text ws values s 1 c k a ≡ sentBy text ws values s (to (class c) k a)
+  unfolding classSent
+  to-class c = refl
+
+  pub to-domain : (c : ℕ) → classSent text ws values s 2 c k a ≡ sentBy text ws values s (to (domain c) k a)
+  unfolding classSent
+  to-domain c = refl
+
+  module _ (n : ℕ) where
+    pub class-none : (kind c : ℕ) → n ≡ classCount (tablesOf ws) → n ≤ c → refused ws values 36 ≡ classSent text ws values s kind c k a
+    unfolding classSent
+    class-none kind c e h = rw (← e, le-ltb c n h)
+
+    pub class-there : (kind c : ℕ) → n ≡ classCount (tablesOf ws) → c < n → sentTo text ws values s kind c c k a ≡ classSent text ws values s kind c k a
+    unfolding classSent
+    class-there kind c e h = rw (← e, lt-ltb c n h)
+
+    pub object-none : (o : ℕ) → n ≡ objectCount (tablesOf ws) → n ≤ o → refused ws values 36 ≡ sentBy text ws values s (to (object o) k a)
+    object-none o e h = rw (← e, le-ltb o n h)
+
+    pub object-there : (o c : ℕ) → n ≡ objectCount (tablesOf ws) → o < n → c ≡ objectWord (tablesOf ws) o objectClassAt
+        → sentTo text ws values s 0 o c k a ≡ sentBy text ws values s (to (object o) k a)
+    object-there o c e h q = rw (← e, lt-ltb o n h, q)
+
+  -- The test of the method, then of the locks.
+  module _ (kind o c n : ℕ) (e : n ≡ methodRefusal (tablesOf ws) c k) where
+    pub sent-refused : (n ≡ 0 → ⊥) → refused ws values n ≡ sentTo text ws values s kind o c k a
+    unfolding sentTo methodRefusal
+    sent-refused z = go (leb (classCount (tablesOf ws)) c) refl (leb (memberCount (tablesOf ws) c 1) k) refl
+      where
+        go : (x : Bool) → leb (classCount (tablesOf ws)) c ≡ x → (y : Bool) → leb (memberCount (tablesOf ws) c 1) k ≡ y → refused ws values n ≡ sentTo text ws values s kind o c k a
+        go true p y q = rw p (ap (refused ws values) (e ∙ rw p))
+        go false p true q = rw (p, q) (ap (refused ws values) (e ∙ rw (p, q)))
+        go false p false q = absurd (z (e ∙ rw (p, q)))
+
+    module _ (z : n ≡ 0) (w : Wanted) (r : w ≡ wanted (tablesOf ws) kind o c k a) where
+      past-method : (t : Bool) → lacking text (tablesOf ws) w ≡ t
+          → cond t (refused ws values 24) (grantedOr text ws values s w (least (inTheWay text ws s w) 8)) ≡ sentTo text ws values s kind o c k a
+      unfolding sentTo
+      past-method t l =
+          let p = passes (tablesOf ws) c k n e z in
+          ap (λ (u : Bool). cond u (refused ws values 24) (grantedOr text ws values s w (least (inTheWay text ws s w) 8))) (sym l)
+          ∙ ap (λ (x : Wanted). cond (lacking text (tablesOf ws) x) (refused ws values 24) (grantedOr text ws values s x (least (inTheWay text ws s x) 8))) r
+          ∙ rw (p .0, p .1)
+
+      pub sent-lacking : lacking text (tablesOf ws) w ≡ true → refused ws values 24 ≡ sentTo text ws values s kind o c k a
+      sent-lacking l = past-method true l
+
+      pub sent-there : lacking text (tablesOf ws) w ≡ false → grantedOr text ws values s w (least (inTheWay text ws s w) 8) ≡ sentTo text ws values s kind o c k a
+      sent-there l = past-method false l
+
+-- ---- an existing object
+
+pub to-object : (tables : List ℕ) (o c k a : ℕ) → ObjectOf tables o c → k < 32 → (w : Wanted) → w ≡ wanted tables 0 o c k a → ToObject tables w
+to-object tables o c k a t h w e = subst (ToObject tables) (sym e) (record { kind-is = refl; object-is = t; few = h })
+
+-- A send to an object is no send to a domain.
+pub object-lacks : (text tables : List ℕ) (o c k a : ℕ) (w : Wanted) → w ≡ wanted tables 0 o c k a → lacking text tables w ≡ false
+object-lacks text tables o c k a w e = sym (lacking-other text tables w (λ x. let z = ap (λ (q : Wanted). q .kind) e in omega arith))

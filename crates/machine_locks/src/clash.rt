@@ -1,0 +1,248 @@
+// What is in the way of a send: the locks of a row that clash with it, and the slots that hold them, as a mask. The rules are in
+// crates/machine_words/specs/Request.antt.
+use super::Wanted;
+ghost use mathlib.Core.Path.{_≡_};
+ghost use Rattle.machine_words.specs.Request.{inDomain, lacks, lacking};
+ghost use Rattle.machine_locks.specs.Asked.{asked};
+ghost use Rattle.machine_locks.specs.Clashing.{domainPlace, heldAt, holdsOne, conflictsOf, classClashes, domainClashes};
+ghost use Prim.Native.Nat.{_≤_, _<_};
+ghost use lib.ListN.{length};
+ghost use Rattle.layout.specs.Layout.{stateWords};
+ghost use Rattle.machine_words.specs.Calls.{inTheWay};
+ghost use Rattle.machine_checks.specs.Lent.{Within};
+ghost use Rattle.machine_locks.specs.Way.{gathered, besides};
+ghost use Rattle.machine_locks.specs.Holders.{heldUpto, holding, targetWord};
+
+const METHODS: u32 = 1;
+
+// The methods that the row holds at a word, or on the class with its objects.
+pub(crate) fn held_at(row: &[u32], word: usize, class: u32) -> u32
+    ensures { λ r. ⌜ r ≡ heldAt (now (row .entry)) word class ⌝ }
+{
+    memory::get(row, word) | memory::get(row, layout::WHOLE_LOCKS_AT + class as usize)
+}
+
+// Whether the row holds one of these methods at a word, or on the class with its objects.
+pub(crate) fn holds(row: &[u32], word: usize, class: u32, methods: u32) -> bool
+    ensures { λ r. ⌜ r ≡ holdsOne (now (row .entry)) word class methods ⌝ }
+{
+    held_at(row, word, class) & methods != 0
+}
+
+// The methods of a class that do not commute with the one at a place.
+pub(crate) fn conflicts(tables: &[u32], class: u32, place: u32) -> u32
+    ensures { λ r. ⌜ r ≡ conflictsOf (now (tables .entry)) class place ⌝ }
+{
+    !catalog::commuting_mask(tables, class, place)
+}
+
+// Whether the class is in the send's domain.
+fn in_domain(tables: &[u32], wanted: Wanted, class: u32) -> bool
+    ensures { λ r. ⌜ r ≡ inDomain (now (tables .entry)) (asked wanted) class ⌝ }
+{
+    catalog::has_bit(catalog::domain(tables, wanted.number), class)
+}
+
+// The place of the method in a class that a send to a domain locks; 32 where it does not lock the class.
+pub(crate) fn domain_place(text: &[u8], tables: &[u32], wanted: Wanted, class: u32) -> u32
+    ensures { λ r. ⌜ r ≡ domainPlace (now (text .entry)) (now (tables .entry)) (asked wanted) class ⌝ }
+{
+    if !in_domain(tables, wanted, class) {
+        return 32;
+    }
+    let name = catalog::name_of(text, wanted.name);
+    let place = catalog::find(text, tables, class, METHODS, name);
+    if place < catalog::member_count(tables, class, METHODS) {
+        place
+    } else {
+        32
+    }
+}
+
+// Whether the row holds a lock on the class in the way of a send to a domain. Few rows hold one, so that is tested first.
+fn class_clashes(text: &[u8], tables: &[u32], wanted: Wanted, row: &[u32], class: u32) -> bool
+    ensures { λ r. ⌜ r ≡ classClashes (now (text .entry)) (now (tables .entry)) (asked wanted) (now (row .entry)) class ⌝ }
+{
+    let word = layout::CLASS_LOCKS_AT + class as usize;
+    if held_at(row, word, class) == 0 {
+        return false;
+    }
+    let place = domain_place(text, tables, wanted, class);
+    if 32 <= place {
+        return false;
+    }
+    holds(row, word, class, conflicts(tables, class, place))
+}
+
+// Whether the row holds a lock on some class in the way of a send to a domain.
+pub(crate) fn domain_clashes(text: &[u8], tables: &[u32], wanted: Wanted, row: &[u32]) -> bool
+    ensures { λ r. ⌜ r ≡ domainClashes (now (text .entry)) (now (tables .entry)) (asked wanted) (now (row .entry)) ⌝ }
+{
+    let count = catalog::class_count(tables);
+    let mut class = 0;
+    while class < count {
+        if class_clashes(text, tables, wanted, row, class) {
+            return true;
+        }
+        class += 1;
+    }
+    false
+}
+
+// Whether the class is in the send's domain and has no such method.
+fn lacks_method(text: &[u8], tables: &[u32], wanted: Wanted, class: u32) -> bool
+    ensures { λ r. ⌜ r ≡ lacks (now (text .entry)) (now (tables .entry)) (asked wanted) class ⌝ }
+{
+    if !in_domain(tables, wanted, class) {
+        return false;
+    }
+    let name = catalog::name_of(text, wanted.name);
+    let place = catalog::find(text, tables, class, METHODS, name);
+    catalog::member_count(tables, class, METHODS) <= place
+}
+
+// Whether the send is to a domain of which some class has no such method.
+pub(crate) fn domain_lacks(text: &[u8], tables: &[u32], wanted: Wanted) -> bool
+    ensures { λ r. ⌜ r ≡ lacking (now (text .entry)) (now (tables .entry)) (asked wanted) ⌝ }
+{
+    if wanted.kind != 2 {
+        return false;
+    }
+    let count = catalog::class_count(tables);
+    let mut class = 0u32;
+    while class < count {
+        if lacks_method(text, tables, wanted, class) {
+            return true;
+        }
+        class += 1;
+    }
+    false
+}
+
+// What the eight slots hold at a word of their rows, or on the class with its objects.
+pub(crate) fn held_by_all(state: &[u32], word: usize, class: u32) -> u32
+    requires { ⌜ stateWords ≤ length (now state) ⌝ }
+    ensures { λ r. ⌜ r ≡ heldUpto (now (state .entry)) word class 8 ⌝ }
+{
+    let mut held = 0;
+    let mut slot = 0u32;
+    while slot < 8 {
+        let start = layout::TABLE_WORDS + slot as usize * layout::ROW_WORDS;
+        let end = start + layout::ROW_WORDS;
+        held = held | held_at(&state[start..end], word, class);
+        slot += 1;
+    }
+    held
+}
+
+// Whether the slot is open and holds one of these methods at a word of its row, or on the class with its objects.
+fn is_holder(state: &[u32], slot: u32, word: usize, class: u32, methods: u32) -> bool
+    requires { ⌜ Within (now state) slot ⌝ }
+    ensures { λ r. ⌜ r ≡ holding (now (state .entry)) word class methods slot ⌝ }
+{
+    if machine_checks::phase_of(state, slot) == 0 {
+        return false;
+    }
+    let start = layout::TABLE_WORDS + slot as usize * layout::ROW_WORDS;
+    let end = start + layout::ROW_WORDS;
+    holds(&state[start..end], word, class, methods)
+}
+
+// The mask of the slots that are such holders.
+fn holders(state: &[u32], word: usize, class: u32, methods: u32) -> u32
+    requires { ⌜ stateWords ≤ length (now state) ⌝ }
+    ensures { λ r. ⌜ r ≡ gathered (holding (now (state .entry)) word class methods) 8 ⌝ }
+{
+    let mut mask = 0;
+    let mut slot = 0u32;
+    while slot < 8 {
+        if is_holder(state, slot, word, class, methods) {
+            mask = mask | (1u32 << slot);
+        }
+        slot += 1;
+    }
+    mask
+}
+
+// The same mask without one slot.
+fn other_holders(state: &[u32], slot: u32, word: usize, class: u32, methods: u32) -> u32
+    requires { ⌜ Within (now state) slot ⌝ }
+    ensures { λ r. ⌜ r ≡ gathered (besides slot (holding (now (state .entry)) word class methods)) 8 ⌝ }
+{
+    let mask = holders(state, word, class, methods);
+    if is_holder(state, slot, word, class, methods) {
+        mask - (1u32 << slot)
+    } else {
+        mask
+    }
+}
+
+// The word of a row with the locks on a send's object, or on its class without its objects.
+fn target_word(wanted: Wanted) -> usize
+    ensures { λ r. ⌜ r ≡ targetWord (asked wanted) ⌝ }
+{
+    if wanted.kind == 0 {
+        layout::OBJECT_LOCKS_AT + wanted.number as usize
+    } else {
+        layout::CLASS_LOCKS_AT + wanted.class as usize
+    }
+}
+
+// The slots in the way of a send to an object or to a class's own objects.
+fn target_clashing(text: &[u8], state: &[u32], slot: u32, wanted: Wanted) -> u32
+    requires { ⌜ Within (now state) slot × (wanted .kind < 2) ⌝ }
+    ensures { λ r. ⌜ r ≡ gathered (inTheWay (now (text .entry)) (now (state .entry)) slot (asked wanted)) 8 ⌝ }
+{
+    let word = target_word(wanted);
+    let methods = conflicts(&state[0..layout::TABLE_WORDS], wanted.class, wanted.place);
+    other_holders(state, slot, word, wanted.class, methods)
+}
+
+// Whether another slot is open and its locks are in the way of a send to a domain.
+fn is_in_the_way(text: &[u8], state: &[u32], slot: u32, wanted: Wanted, other: u32) -> bool
+    requires { ⌜ Within (now state) other × (2 ≤ wanted .kind) ⌝ }
+    ensures { λ r. ⌜ r ≡ inTheWay (now (text .entry)) (now (state .entry)) slot (asked wanted) other ⌝ }
+{
+    if other == slot {
+        return false;
+    }
+    if machine_checks::phase_of(state, other) == 0 {
+        return false;
+    }
+    let start = layout::TABLE_WORDS + other as usize * layout::ROW_WORDS;
+    let end = start + layout::ROW_WORDS;
+    domain_clashes(
+        text,
+        &state[0..layout::TABLE_WORDS],
+        wanted,
+        &state[start..end],
+    )
+}
+
+// The slots in the way of a send to a domain.
+fn domain_clashing(text: &[u8], state: &[u32], slot: u32, wanted: Wanted) -> u32
+    requires { ⌜ Within (now state) slot × (2 ≤ wanted .kind) ⌝ }
+    ensures { λ r. ⌜ r ≡ gathered (inTheWay (now (text .entry)) (now (state .entry)) slot (asked wanted)) 8 ⌝ }
+{
+    let mut mask = 0;
+    let mut other = 0;
+    while other < 8 {
+        if is_in_the_way(text, state, slot, wanted, other) {
+            mask = mask | (1u32 << other);
+        }
+        other += 1;
+    }
+    mask
+}
+
+// The slots in the way of a send.
+pub(crate) fn clashing(text: &[u8], state: &[u32], slot: u32, wanted: Wanted) -> u32
+    requires { ⌜ Within (now state) slot ⌝ }
+    ensures { λ r. ⌜ r ≡ gathered (inTheWay (now (text .entry)) (now (state .entry)) slot (asked wanted)) 8 ⌝ }
+{
+    if wanted.kind < 2 {
+        target_clashing(text, state, slot, wanted)
+    } else {
+        domain_clashing(text, state, slot, wanted)
+    }
+}

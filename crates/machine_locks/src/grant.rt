@@ -1,0 +1,103 @@
+// Grants a send that has passed its tests, or names the lowest slot in its way.
+use super::First;
+use super::Wanted;
+use super::clash::clashing;
+use super::clash::conflicts;
+use super::clash::held_by_all;
+use super::start::enter;
+use super::start::first_object;
+use super::start::start_message;
+use super::take::add_lock;
+use super::take::lock;
+use super::take::place_bit;
+ghost use Prim.Native.Nat.{ℕ, _≤_, _<_};
+ghost use mathlib.Core.Path.{_≡_};
+ghost use mathlib.Core.Bool.{true};
+ghost use mathlib.Core.List.{List};
+ghost use lib.ListN.{length};
+ghost use Rattle.layout.specs.Layout.{stateWords};
+ghost use Rattle.model.specs.Base.{least};
+ghost use Rattle.machine_words.specs.Request.{locked, firstOf, entered};
+ghost use Rattle.machine_words.specs.Calls.{tablesOf, rowOf, withRow, inTheWay, grantedOr};
+ghost use Rattle.machine_locks.specs.Asked.{asked};
+ghost use Rattle.machine_checks.specs.Told.{Leaves};
+ghost use Rattle.machine_checks.specs.Lent.{Within};
+ghost use Rattle.machine_locks.specs.Outcomes.{outcomeOf};
+ghost use Rattle.machine_locks.specs.OneObject.{ToObject};
+ghost use Rattle.machine_locks.specs.Holders.{startsAtOnce};
+
+// Grants a send: takes its locks, puts its message at its start and answers 0. Answers 40 plus the lowest slot in its way, or 24
+// where its message starts nowhere, and then alters nothing.
+pub(crate) fn grant(text: &[u8], state: &mut [u32], slot: u32, wanted: Wanted) -> u32
+    requires { ⌜ Within (now state) slot × (wanted .place < 32) ⌝ }
+    ensures { λ r. ⌜ ((values : List ℕ) → Leaves (grantedOr (now (text .entry)) (now (state .entry)) values slot (asked wanted)
+        (least (inTheWay (now (text .entry)) (now (state .entry)) slot (asked wanted)) 8)) (outcomeOf r) (now (state .exit)) values) ⌝ }
+{
+    let mask = clashing(text, state, slot, wanted);
+    if mask != 0 {
+        return 40 + u32::trailing_zeros(mask);
+    }
+    let first = first_object(text, &state[0..layout::TABLE_WORDS], wanted);
+    if let First::Nowhere = first {
+        return 24;
+    }
+    lock(text, state, slot, wanted);
+    start_message(state, slot, wanted, first);
+    0
+}
+
+// Whether a send to an object can start at once: no slot holds a conflict, and the body is at its place in the object's class.
+fn starts_at_once(state: &[u32], wanted: Wanted) -> bool
+    requires { ⌜ stateWords ≤ length (now state) ⌝ }
+    ensures { λ r. ⌜ r ≡ startsAtOnce (now (state .entry)) (asked wanted) ⌝ }
+{
+    let word = layout::OBJECT_LOCKS_AT + wanted.number as usize;
+    let methods = conflicts(&state[0..layout::TABLE_WORDS], wanted.class, wanted.place);
+    if held_by_all(state, word, wanted.class) & methods != 0 {
+        return false;
+    }
+    catalog::body::named_at(
+        &state[0..layout::TABLE_WORDS],
+        wanted.class,
+        wanted.place,
+        wanted.name,
+    )
+}
+
+// Takes the locks of such a send, and puts its message at its start, in its slot's row.
+fn take_object(state: &mut [u32], slot: u32, wanted: Wanted)
+    requires { ⌜ Within (now state) slot × ToObject (tablesOf (now state)) (asked wanted) × (startsAtOnce (now state) (asked wanted) ≡ true) ⌝ }
+    ensures { λ _. ⌜ ((text : List ℕ) → now (state .exit) ≡ withRow (now (state .entry)) slot (entered (asked wanted) (firstOf text (tablesOf (now (state .entry))) (asked wanted))
+        (locked text (tablesOf (now (state .entry))) (asked wanted) (rowOf (now (state .entry)) slot)))) ⌝ }
+{
+    let body = catalog::body::body_of(&state[0..layout::TABLE_WORDS], wanted.class, wanted.place);
+    let start = layout::TABLE_WORDS + slot as usize * layout::ROW_WORDS;
+    let end = start + layout::ROW_WORDS;
+    let row = &mut state[start..end];
+    let bits = place_bit(wanted.place);
+    add_lock(row, layout::OBJECT_LOCKS_AT + wanted.number as usize, bits);
+    add_lock(row, layout::CLASS_LOCKS_AT + wanted.class as usize, bits);
+    enter(row, wanted, First::On(wanted.number, body.first, body.end));
+}
+
+// Grants a send to an object. Most start at once; the others are granted as any other send, with parts of what is lent, so that
+// nothing of it need be in memory for those that start at once.
+pub(crate) fn grant_object(text: &[u8], state: &mut [u32], slot: u32, wanted: Wanted) -> u32
+    requires { ⌜ Within (now state) slot × ToObject (tablesOf (now state)) (asked wanted) ⌝ }
+    ensures { λ r. ⌜ ((values : List ℕ) → Leaves (grantedOr (now (text .entry)) (now (state .entry)) values slot (asked wanted)
+        (least (inTheWay (now (text .entry)) (now (state .entry)) slot (asked wanted)) 8)) (outcomeOf r) (now (state .exit)) values) ⌝ }
+{
+    if starts_at_once(state, wanted) {
+        take_object(state, slot, wanted);
+        return 0;
+    }
+    let copy = Wanted {
+        kind: wanted.kind,
+        number: wanted.number,
+        class: wanted.class,
+        place: wanted.place,
+        name: wanted.name,
+        argument: wanted.argument,
+    };
+    grant(&text[0..], &mut state[0..], slot, copy)
+}

@@ -1,0 +1,100 @@
+// Takes the locks of a send, in its slot's row.
+use super::Wanted;
+ghost use mathlib.Core.Path.{_≡_};
+ghost use Rattle.machine_words.specs.Row.{withBits};
+ghost use Rattle.machine_words.specs.Request.{domainLock, locked};
+ghost use Rattle.machine_locks.specs.Asked.{asked};
+ghost use Rattle.machine_locks.specs.Locking.{placeBit, domainBit, lockedTarget};
+ghost use Prim.Native.Nat.{_<_};
+ghost use Rattle.catalog.specs.View.{classCount};
+ghost use Rattle.machine_words.specs.Calls.{tablesOf, rowOf, withRow};
+ghost use Rattle.machine_checks.specs.Lent.{Within};
+ghost use Rattle.machine_locks.specs.Granted.{lockedBelow};
+
+// The mask of the method at a place; 0 past the 32 of a mask.
+pub(crate) fn place_bit(place: u32) -> u32
+    ensures { λ r. ⌜ r ≡ placeBit place ⌝ }
+{
+    if place < 32 { 1u32 << place } else { 0 }
+}
+
+// The bit of the send's lock on a class of its domain; 0 where it does not lock the class.
+pub(crate) fn domain_bit(text: &[u8], tables: &[u32], wanted: Wanted, class: u32) -> u32
+    ensures { λ r. ⌜ r ≡ domainBit (now (text .entry)) (now (tables .entry)) (asked wanted) class ⌝ }
+{
+    let place = super::clash::domain_place(text, tables, wanted, class);
+    place_bit(place)
+}
+
+// Adds lock bits to a word of the row, and marks the word as one with locks.
+pub(crate) fn add_lock(row: &mut [u32], word: usize, bits: u32)
+    ensures { λ _. ⌜ now (row .exit) ≡ withBits (now (row .entry)) word bits ⌝ }
+{
+    let held = memory::get(row, word);
+    let marks = memory::get(row, layout::LOCK_MARKS_AT);
+    memory::put(
+        row,
+        layout::LOCK_MARKS_AT,
+        marks | (1u32 << (word / 8 % 32)),
+    );
+    memory::put(row, word, held | bits);
+}
+
+// Takes the locks of a send to an object, on the object and on its class, or to a class's own objects.
+pub(crate) fn lock_target(row: &mut [u32], wanted: Wanted)
+    ensures { λ _. ⌜ now (row .exit) ≡ lockedTarget (asked wanted) (now (row .entry)) ⌝ }
+{
+    let bits = place_bit(wanted.place);
+    if wanted.kind == 0 {
+        add_lock(row, layout::OBJECT_LOCKS_AT + wanted.number as usize, bits);
+        add_lock(row, layout::CLASS_LOCKS_AT + wanted.class as usize, bits);
+        return;
+    }
+    add_lock(row, layout::WHOLE_LOCKS_AT + wanted.class as usize, bits);
+}
+
+// Takes a domain's lock on one class, by that class's own method of the name; does nothing where the send does not lock it.
+fn lock_class(text: &[u8], state: &mut [u32], slot: u32, wanted: Wanted, class: u32)
+    requires { ⌜ Within (now state) slot ⌝ }
+    ensures { λ _. ⌜ now (state .exit) ≡ withRow (now (state .entry)) slot (domainLock (now (text .entry)) (tablesOf (now (state .entry))) (asked wanted) (rowOf (now (state .entry)) slot) class) ⌝ }
+{
+    let bits = domain_bit(text, &state[0..layout::TABLE_WORDS], wanted, class);
+    if bits == 0 {
+        return;
+    }
+    let start = layout::TABLE_WORDS + slot as usize * layout::ROW_WORDS;
+    let end = start + layout::ROW_WORDS;
+    add_lock(
+        &mut state[start..end],
+        layout::WHOLE_LOCKS_AT + class as usize,
+        bits,
+    );
+}
+
+// Takes the locks of a send to a domain.
+fn lock_domain(text: &[u8], state: &mut [u32], slot: u32, wanted: Wanted)
+    requires { ⌜ Within (now state) slot ⌝ }
+    ensures { λ _. ⌜ now (state .exit) ≡ withRow (now (state .entry)) slot (lockedBelow (now (text .entry)) (tablesOf (now (state .entry))) (asked wanted)
+        (rowOf (now (state .entry)) slot) (classCount (tablesOf (now (state .entry))))) ⌝ }
+{
+    let count = catalog::class_count(&state[0..layout::TABLE_WORDS]);
+    let mut class = 0;
+    while class < count {
+        lock_class(text, state, slot, wanted, class);
+        class += 1;
+    }
+}
+
+// Takes the locks of a send, in its slot's row.
+pub(crate) fn lock(text: &[u8], state: &mut [u32], slot: u32, wanted: Wanted)
+    requires { ⌜ Within (now state) slot × (wanted .place < 32) ⌝ }
+    ensures { λ _. ⌜ now (state .exit) ≡ withRow (now (state .entry)) slot (locked (now (text .entry)) (tablesOf (now (state .entry))) (asked wanted) (rowOf (now (state .entry)) slot)) ⌝ }
+{
+    if 2 <= wanted.kind {
+        lock_domain(text, state, slot, wanted);
+        return;
+    }
+    let start = layout::TABLE_WORDS + slot as usize * layout::ROW_WORDS;
+    let end = start + layout::ROW_WORDS;
+    lock_target(&mut state[start..end], wanted);
+}

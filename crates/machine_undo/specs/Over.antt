@@ -1,0 +1,130 @@
+-- A list that a loop makes from another, front to back: what is done so far, and what is left.
+use Prim.Native.Nat.{ℕ, zero, suc, _+_, _*_, _/_, _%_, _^_, _≤_, _<_}
+use native.Mathlib.Nat.{not-suc-le-zero, le-of-suc-le-suc, one-mul}
+use native.Mathlib.Numerals.{add-one}
+use native.Mathlib.Omega.{arith}
+use mathlib.Core.Path.{_≡_, refl, sym, ap, _∙_}
+use mathlib.Core.List.{List, [], _∷_, _++_}
+use lib.ListN.{length, getD, take, drop, set, replicate}
+use lib.Pow.{shl-exact}
+use lib.Bits.{bitOr}
+use borrow.Author.Tests.{lt-ltb, le-ltb, eq-eqb, ne-eqb}
+use Rattle.layout.specs.Layout.{valuesMost, changedAt, marksAt, notesAt}
+use Rattle.model.specs.Undo.{restored}
+use Rattle.laws.specs.Bits.{bit}
+use Rattle.machine_words.specs.Row.{noteAt, notedRow}
+
+-- The first i elements are those of `made`, the others those of `old`.
+abbrev pub over : ℕ → List ℕ → List ℕ → List ℕ
+over i made old = take i made ++ drop i old
+
+suc-injective : {m n : ℕ} → suc m ≡ suc n → m ≡ n
+suc-injective e = omega arith
+
+put-next : (i : ℕ) (made old : List ℕ) → length made ≡ length old → i < length old → set (over i made old) i (getD made i 0) ≡ over (suc i) made old
+put-next i made [] e h = absurd (not-suc-le-zero h)
+put-next i [] (o ∷ os) e h = absurd (omega arith)
+put-next zero (t ∷ ts) (o ∷ os) e h = refl
+put-next (suc i) (t ∷ ts) (o ∷ os) e h = ap (λ (r : List ℕ). t ∷ r) (put-next i ts os (suc-injective e) (le-of-suc-le-suc h))
+
+keep-next : (i : ℕ) (made old : List ℕ) → length made ≡ length old → i < length old → getD made i 0 ≡ getD old i 0 → over i made old ≡ over (suc i) made old
+keep-next i made [] e h q = absurd (not-suc-le-zero h)
+keep-next i [] (o ∷ os) e h q = absurd (omega arith)
+keep-next zero (t ∷ ts) (o ∷ os) e h q = ap (λ (x : ℕ). x ∷ os) (sym q)
+keep-next (suc i) (t ∷ ts) (o ∷ os) e h q = ap (λ (r : List ℕ). t ∷ r) (keep-next i ts os (suc-injective e) (le-of-suc-le-suc h) q)
+
+pub over-length : (i : ℕ) (made old : List ℕ) → length made ≡ length old → length (over i made old) ≡ length old
+over-length zero made old e = refl
+over-length (suc i) [] [] e = refl
+over-length (suc i) [] (o ∷ os) e = absurd (omega arith)
+over-length (suc i) (t ∷ ts) [] e = absurd (omega arith)
+over-length (suc i) (t ∷ ts) (o ∷ os) e = ap suc (over-length i ts os (suc-injective e))
+
+-- The next element is still the old one.
+pub over-at : (i : ℕ) (made old : List ℕ) → length made ≡ length old → getD (over i made old) i 0 ≡ getD old i 0
+over-at zero made old e = refl
+over-at (suc i) [] [] e = refl
+over-at (suc i) [] (o ∷ os) e = absurd (omega arith)
+over-at (suc i) (t ∷ ts) [] e = absurd (omega arith)
+over-at (suc i) (t ∷ ts) (o ∷ os) e = over-at i ts os (suc-injective e)
+
+-- An element before that is the new one.
+pub over-made : (i j : ℕ) (made old : List ℕ) → length made ≡ length old → j < i → getD (over i made old) j 0 ≡ getD made j 0
+over-made zero j made old e h = absurd (not-suc-le-zero h)
+over-made (suc i) j [] [] e h = refl
+over-made (suc i) j [] (o ∷ os) e h = absurd (omega arith)
+over-made (suc i) j (t ∷ ts) [] e h = absurd (omega arith)
+over-made (suc i) zero (t ∷ ts) (o ∷ os) e h = refl
+over-made (suc i) (suc j) (t ∷ ts) (o ∷ os) e h = over-made i j ts os (suc-injective e) (le-of-suc-le-suc h)
+
+-- Elements that stay as they are can be passed over.
+pub over-skip : (i n : ℕ) (made old : List ℕ) → length made ≡ length old → i + n ≤ length old
+    → ((j : ℕ) → i ≤ j → j < i + n → getD made j 0 ≡ getD old j 0) → over i made old ≡ over (i + n) made old
+over-skip i zero made old e h q = let a : i ≡ i + 0 = omega arith in ap (λ (k : ℕ). over k made old) a
+over-skip i (suc n) made old e h q =
+    let a : suc (i + n) ≡ i + suc n = omega arith in
+    over-skip i n made old e (omega arith) (λ j g l. q j g (omega arith))
+    ∙ keep-next (i + n) made old e (omega arith) (q (i + n) (omega arith) (omega arith)) ∙ ap (λ (k : ℕ). over k made old) a
+
+-- At the end all is made.
+pub over-all : (made old : List ℕ) → length made ≡ length old → over (length old) made old ≡ made
+over-all [] [] e = refl
+over-all [] (o ∷ os) e = absurd (omega arith)
+over-all (t ∷ ts) [] e = absurd (omega arith)
+over-all (t ∷ ts) (o ∷ os) e = ap (λ (r : List ℕ). t ∷ r) (over-all ts os (suc-injective e))
+
+module _ (made old : List ℕ) (e : length made ≡ length old) (now : List ℕ) (i : ℕ) (h : i < length old) (q : now ≡ over i made old) where
+  -- A turn that stores the element.
+  pub over-put : (v : ℕ) → v ≡ getD made i 0 → set now i v ≡ over (i + 1) made old
+  over-put v w = ap (λ (l : List ℕ). set l i v) q ∙ ap (λ (x : ℕ). set (over i made old) i x) w ∙ put-next i made old e h ∙ ap (λ (k : ℕ). over k made old) (sym (add-one i))
+
+  -- A turn that leaves it as it is.
+  pub over-keep : getD made i 0 ≡ getD old i 0 → now ≡ over (i + 1) made old
+  over-keep w = q ∙ keep-next i made old e h w ∙ ap (λ (k : ℕ). over k made old) (sym (add-one i))
+
+-- ---- reading a note
+
+module _ (row : List ℕ) (k v : ℕ) where
+  abbrev pub marked : ℕ
+  marked = getD row (marksAt + k / 32) 0 / 2 ^ (k % 32) % 2
+
+  pub note-kept : k < valuesMost → marked ≡ 1 → getD row (notesAt + k) 0 ≡ restored (noteAt row k) v
+  unfolding noteAt bit
+  note-kept h e = rw (lt-ltb k valuesMost h, eq-eqb marked 1 e)
+
+  pub note-none : k < valuesMost → (marked ≡ 1 → ⊥) → v ≡ restored (noteAt row k) v
+  unfolding noteAt bit
+  note-none h e = rw (lt-ltb k valuesMost h, ne-eqb marked 1 e)
+
+  pub note-past : valuesMost ≤ k → v ≡ restored (noteAt row k) v
+  unfolding noteAt
+  note-past h = rw (le-ltb k valuesMost h)
+
+-- ---- making a note
+
+module _ (row : List ℕ) (k v : ℕ) where
+  pub noted-past : valuesMost ≤ k → row ≡ notedRow row k v
+  unfolding notedRow
+  noted-past h = rw (le-ltb k valuesMost h)
+
+  pub noted-kept : k < valuesMost → marked row k v ≡ 1 → row ≡ notedRow row k v
+  unfolding notedRow bit
+  noted-kept h e = rw (lt-ltb k valuesMost h, eq-eqb (marked row k v) 1 e)
+
+  pub noted-new : k < valuesMost → (marked row k v ≡ 1 → ⊥)
+      → set (set (set row changedAt 1) (marksAt + k / 32) (bitOr (getD row (marksAt + k / 32) 0) (2 ^ (k % 32)))) (notesAt + k) v ≡ notedRow row k v
+  unfolding notedRow bit
+  noted-new h e = rw (lt-ltb k valuesMost h, ne-eqb (marked row k v) 1 e)
+
+pub one-shifted : (k : ℕ) → k < 32 → (1 * 2 ^ k) % 2 ^ 32 ≡ 2 ^ k
+one-shifted k h = shl-exact {a = 1} 1 k 32 (omega arith) (omega arith) ∙ one-mul (2 ^ k)
+
+pub zeros-at : (n k : ℕ) → _≡_ {A = ℕ} (getD (replicate n 0) k 0) 0
+zeros-at zero k = refl
+zeros-at (suc n) zero = refl
+zeros-at (suc n) (suc k) = zeros-at n k
+
+pub zeros-of : (n m : ℕ) → n ≤ m → take n (replicate {A = ℕ} m 0) ≡ replicate n 0
+zeros-of zero m h = refl
+zeros-of (suc n) zero h = absurd (omega arith)
+zeros-of (suc n) (suc m) h = ap (λ (l : List ℕ). 0 ∷ l) (zeros-of n m (le-of-suc-le-suc h))

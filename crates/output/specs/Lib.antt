@@ -1,0 +1,3 @@
+pub mod Each
+pub mod Append
+pub mod Digits

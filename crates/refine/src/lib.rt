@@ -1,1 +1,0 @@
-// The words against the model: see specs/.

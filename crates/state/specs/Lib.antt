@@ -1,4 +1,0 @@
-pub mod Row
-pub mod Turn
-pub mod Request
-pub mod Calls

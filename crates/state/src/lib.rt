@@ -1,1 +1,0 @@
-// What the calls do to the lent words, as definitions: see specs/.

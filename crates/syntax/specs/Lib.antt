@@ -1,6 +1,0 @@
-pub mod Chosen
-pub mod Tokens
-pub mod Reading
-pub mod Keywords
-pub mod Kinds
-pub mod Places

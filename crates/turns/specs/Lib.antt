@@ -1,4 +1,0 @@
-pub mod Visits
-pub mod Actions
-pub mod Lines
-pub mod Decides

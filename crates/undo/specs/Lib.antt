@@ -1,3 +1,0 @@
-pub mod Over
-pub mod Freed
-pub mod Unlocked

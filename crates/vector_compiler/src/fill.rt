@@ -1,0 +1,183 @@
+// Writes the masks of every method into the tables: two of its transitive vector, and one of the methods that it commutes
+// with.
+use super::closure::vector_of;
+use vector_direct::Vector;
+ghost use Prim.Native.Nat.{_+_, _*_, _<_};
+ghost use mathlib.Core.Path.{_≡_};
+ghost use lib.ListN.{length};
+ghost use Rattle.layout.specs.Layout.{classWords, classesAt};
+ghost use Rattle.model.specs.Mode.{compatible};
+ghost use Rattle.catalog.specs.View.{memberCount};
+ghost use Rattle.vector_compiler.specs.Ranks.{pairApart, rowApart};
+ghost use Rattle.vector_compiler.specs.Commuting.{modeMask, apart};
+ghost use Rattle.vector_compiler.specs.Filled.{Filled};
+ghost use Rattle.vector_compiler.specs.Filling.{withVector, stored, commutingMask, TwoTo, CommutingTo, ClassFilled};
+
+// Table 1 of the paper: which modes of a field are compatible, by rank: Null, Read, Write.
+const COMPATIBLE: [[bool; 3]; 3] = [
+    [true, true, true],
+    [true, true, false],
+    [true, false, false],
+];
+
+// The place of a method's mask.
+fn mask_place(class: u32, row: u32, method: u32) -> usize
+    ensures { λ r. ⌜ r ≡ classesAt + (class * classWords + (row + method)) ⌝ }
+{
+    layout::CLASSES_AT + (class as usize * layout::CLASS_WORDS + (row as usize + method as usize))
+}
+
+// The fields in the mode of a rank: neither used nor written, used and not written, written. A number that is no rank has none.
+fn mode_mask(vector: Vector, rank: usize) -> u32
+    ensures { λ r. ⌜ r ≡ modeMask vector rank ⌝ }
+{
+    let uses = vector.uses;
+    let writes = vector.writes;
+    match rank {
+        0 => !(uses | writes),
+        1 => uses & !writes,
+        2 => writes,
+        _ => 0,
+    }
+}
+
+// Whether the modes of these ranks are compatible, or no field is in the one for the first method and in the other for the second.
+fn pair_apart(a: Vector, b: Vector, i: usize, j: usize) -> bool
+    requires { ⌜ (i < length compatible) × (j < length compatible) ⌝ }
+    ensures { λ r. ⌜ r ≡ pairApart compatible (modeMask a) (modeMask b) i j ⌝ }
+{
+    if COMPATIBLE[i][j] {
+        true
+    } else {
+        mode_mask(a, i) & mode_mask(b, j) == 0
+    }
+}
+
+// The same for every mode of the second method.
+fn row_apart(a: Vector, b: Vector, i: usize) -> bool
+    requires { ⌜ i < length compatible ⌝ }
+    ensures { λ r. ⌜ r ≡ rowApart compatible (modeMask a) (modeMask b) i ⌝ }
+{
+    let mut j = 0;
+    while j < COMPATIBLE.len() {
+        if !pair_apart(a, b, i, j) {
+            return false;
+        }
+        j += 1;
+    }
+    true
+}
+
+// Whether two methods commute: no pair of modes that the table forbids meets at a field.
+fn commuting(a: Vector, b: Vector) -> bool
+    ensures { λ r. ⌜ r ≡ apart a b ⌝ }
+{
+    let mut i = 0;
+    while i < COMPATIBLE.len() {
+        if !row_apart(a, b, i) {
+            return false;
+        }
+        i += 1;
+    }
+    true
+}
+
+// Stores the masks of Read and Write of a vector.
+fn put_vector(tables: &mut [u32], class: u32, method: u32, vector: Vector)
+    ensures { λ r. ⌜ now (tables .exit) ≡ withVector (now (tables .entry)) class method vector ⌝ }
+{
+    let read = mode_mask(vector, 1);
+    let write = mode_mask(vector, 2);
+    memory::put(
+        tables,
+        mask_place(class, layout::READ_MASKS_AT, method),
+        read,
+    );
+    memory::put(
+        tables,
+        mask_place(class, layout::WRITE_MASKS_AT, method),
+        write,
+    );
+}
+
+// The stored vector of a method.
+fn stored_vector(tables: &[u32], class: u32, method: u32) -> Vector
+    ensures { λ r. ⌜ r ≡ stored (now (tables .entry)) class method ⌝ }
+{
+    let read = memory::get(tables, mask_place(class, layout::READ_MASKS_AT, method));
+    let write = memory::get(tables, mask_place(class, layout::WRITE_MASKS_AT, method));
+    Vector {
+        uses: read | write,
+        writes: write,
+    }
+}
+
+// The methods of the class with which a method commutes, by the stored vectors.
+fn commuting_mask(tables: &[u32], class: u32, method: u32) -> u32
+    ensures { λ r. ⌜ r ≡ commutingMask (now (tables .entry)) class method ⌝ }
+{
+    let count = catalog::member_count(tables, class, 1);
+    let vector = stored_vector(tables, class, method);
+    let mut mask = 0;
+    let mut other = 0;
+    while other < count {
+        let together = commuting(vector, stored_vector(tables, class, other));
+        mask = vector_direct::with_bit(mask, other, together);
+        other += 1;
+    }
+    mask
+}
+
+// Stores the vectors of a class's methods.
+fn fill_masks(text: &[u8], tables: &mut [u32], class: u32)
+    requires { ⌜ class < 16 ⌝ }
+    ensures { λ r. ⌜ TwoTo (now (text .entry)) (now (tables .entry)) class (memberCount (now (tables .entry)) class 1) (now (tables .exit)) ⌝ }
+{
+    let count = catalog::member_count(tables, class, 1);
+    let mut bodies = [0u32; 2560];
+    let mut callees = [0u32; 4096];
+    let mut method = 0;
+    while method < count {
+        let vector = vector_of(text, tables, class, method, &mut bodies, &mut callees);
+        put_vector(tables, class, method, vector);
+        method += 1;
+    }
+}
+
+// Stores the commuting masks of a class's methods.
+fn fill_commuting(tables: &mut [u32], class: u32)
+    ensures { λ r. ⌜ CommutingTo (now (tables .entry)) class (memberCount (now (tables .entry)) class 1) (now (tables .exit)) ⌝ }
+{
+    let count = catalog::member_count(tables, class, 1);
+    let mut method = 0;
+    while method < count {
+        let mask = commuting_mask(tables, class, method);
+        memory::put(
+            tables,
+            mask_place(class, layout::COMMUTING_AT, method),
+            mask,
+        );
+        method += 1;
+    }
+}
+
+// Stores the masks of a class's methods.
+fn fill_class(text: &[u8], tables: &mut [u32], class: u32)
+    requires { ⌜ class < 16 ⌝ }
+    ensures { λ r. ⌜ ClassFilled (now (text .entry)) (now (tables .entry)) class (now (tables .exit)) ⌝ }
+{
+    fill_masks(text, tables, class);
+    fill_commuting(tables, class);
+}
+
+// Stores the masks of every method of every class of the library in `tables`.
+pub fn fill_vectors(text: &[u8], tables: &mut [u32])
+    ensures { λ r. ⌜ Filled (now (text .entry)) (now (tables .entry)) (now (tables .exit)) ⌝ }
+{
+    let count = catalog::class_count(tables);
+    let mut class = 0;
+    while class < count {
+        fill_class(text, tables, class);
+        class += 1;
+    }
+}
