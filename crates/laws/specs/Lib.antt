@@ -5,3 +5,4 @@ pub mod Modes
 pub mod PutBack
 pub mod Bits
 pub mod Upto
+pub mod Signed

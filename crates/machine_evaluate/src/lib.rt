@@ -7,15 +7,19 @@ use text_syntax::token::token_of;
 ghost use mathlib.Core.Path.{_≡_};
 ghost use Prim.Native.Nat.{ℕ, _*_, _%_};
 ghost use lib.ListN.{length, drop};
+ghost use lib.Signed.{ltZ};
 ghost use Rattle.model.specs.Base.{digit};
 ghost use Rattle.model.specs.Text.{words};
-ghost use Rattle.model.specs.Expression.{field, readLevels, operate};
+ghost use Rattle.model.specs.Expression.{field, readLevels, signed, operate};
 ghost use Rattle.text_lex.specs.Piece.{wordsAfter};
 ghost use Rattle.text_syntax.specs.Tokens.{saidOperator, saidLeaf};
 ghost use Rattle.machine_words.specs.Turn.{valueIn};
 ghost use Rattle.machine_evaluate.specs.Valued.{valuedAt, valued, joined};
 
 const FIELDS: u32 = 0;
+
+// The sign bit of a word.
+const SIGN: u32 = 2147483648;
 
 // The value of an expression and the place after it; Nothing where there is no expression, or where it names a field that the
 // class does not have.
@@ -38,6 +42,15 @@ fn digit(test: bool) -> u32
     if test { 1 } else { 0 }
 }
 
+// Whether x is below y, both read as signed numbers: the order of the words with their sign bits exchanged.
+fn is_less(x: u32, y: u32) -> bool
+    ensures { λ r. ⌜ r ≡ ltZ (signed x) (signed y) ⌝ }
+{
+    let left = std::num::wrapping_add_u32(x, SIGN);
+    let right = std::num::wrapping_add_u32(y, SIGN);
+    left < right
+}
+
 // The operator's result for two values.
 fn operate(operator: Operator, x: u32, y: u32) -> u32
     ensures { λ r. ⌜ r ≡ operate (saidOperator operator) x y ⌝ }
@@ -46,7 +59,7 @@ fn operate(operator: Operator, x: u32, y: u32) -> u32
         Operator::Plus => std::num::wrapping_add_u32(x, y),
         Operator::Minus => std::num::wrapping_sub_u32(x, y),
         Operator::Times => times(x, y),
-        Operator::Less => digit(x < y),
+        Operator::Less => digit(is_less(x, y)),
         Operator::Equal => digit(x == y),
     }
 }

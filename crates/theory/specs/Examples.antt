@@ -123,7 +123,9 @@ starred =
     pairs [] 24 (24 ∷ 0 ∷ 24 ∷ 0 ∷ 24 ∷ 0 ∷ []) ∷
     values "- 0 1" 4294967295 ∷
     values "* 65536 65536" 0 ∷
-    values "< 0 4294967295" 1 ∷
+    values "< 0 4294967295" 0 ∷
+    values "< 4294967295 0" 1 ∷
+    values "< 2147483648 2147483647" 1 ∷
     plays lanes (begin 0 ∷ begin 1 ∷ begin 2 ∷ send 0 (to (object 0) 0 0) ∷ send 1 (to (object 0) 1 0) ∷ send 2 (to (object 0) 2 0) ∷ [])
     (done ∷ done ∷ done ∷ done ∷ done ∷ held 0 ∷ []) (0 ∷ 0 ∷ 0 ∷ []) ∷
     plays lanes (begin 0 ∷ send 0 (to (object 0) 0 40) ∷ step 0 ∷ step 0 ∷ step 0 ∷ step 0 ∷ step 0 ∷ send 0 (to (object 0) 2 0) ∷ [])

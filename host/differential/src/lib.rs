@@ -23,6 +23,14 @@ pub fn vector(name: &str) -> Vec<u8> {
     std::fs::read(&path).unwrap_or_else(|e| panic!("{}: {e}", path.display()))
 }
 
+/// The numbers of the vectors that have a call list.
+pub fn call_lists() -> Vec<u64> {
+    let folder = PathBuf::from(env!("CARGO_MANIFEST_DIR")).join("../vectors");
+    let all: Vec<u64> = (0..100).filter(|n| folder.join(format!("{n}.calls")).is_file()).collect();
+    assert_eq!(all.len(), 95);
+    all
+}
+
 /// A number from the environment: how much a run does, where it is to be more or less than the gate's.
 pub fn amount(variable: &str, otherwise: u64) -> u64 {
     match std::env::var(variable) {

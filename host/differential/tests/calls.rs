@@ -2,7 +2,7 @@
 
 use differential::library::Lent;
 use differential::machine::{make, Counts, List};
-use differential::{amount, each_seed, vector};
+use differential::{amount, call_lists, each_seed, vector};
 use generate::calls::{text_to_call, values_for};
 use generate::{limits, Random};
 use reference::lines;
@@ -17,7 +17,9 @@ fn lines_of(name: &str) -> Vec<String> {
 /// The library on each vector's calls: what its trace says, then once more beside the second implementation and the course.
 #[test]
 fn vectors() {
-    each_seed(60, |n| {
+    let lists = call_lists();
+    each_seed(lists.len() as u64, |k| {
+        let n = lists[k as usize];
         let text = vector(&format!("{n}.txt"));
         let library = reference::read(&text).unwrap();
         let start = library.starting_values();

@@ -41,9 +41,10 @@ impl Random {
     /// A number that likes the edges.
     pub fn edge(&mut self) -> u32 {
         const EDGES: [u32; 9] = [0, 1, 2, 31, 65_535, 65_536, 2_147_483_648, 4_294_967_294, 4_294_967_295];
-        match self.below(3) {
+        match self.below(4) {
             0 => *self.pick(&EDGES),
             1 => self.below(10) as u32,
+            2 => 2_147_483_646 + self.below(5) as u32,
             _ => self.next() as u32,
         }
     }

@@ -88,7 +88,7 @@ fn value(e: &Expression, fields: &BTreeMap<String, u32>, a: &Activation) -> u32 
                 b'+' => x.wrapping_add(y),
                 b'-' => x.wrapping_sub(y),
                 b'*' => x.wrapping_mul(y),
-                b'<' => (x < y) as u32,
+                b'<' => ((x as i32) < (y as i32)) as u32,
                 _ => (x == y) as u32,
             }
         }
