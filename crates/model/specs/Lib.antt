@@ -19,3 +19,4 @@ pub mod Undo
 pub mod Alone
 pub mod Machine
 pub mod Course
+pub mod Rehearsal
