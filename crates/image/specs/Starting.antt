@@ -14,7 +14,8 @@ use Rattle.image.specs.Written.{valuesFrom, startingFrom}
 use Rattle.output.specs.Each.{each-upto, each-same}
 
 module _ (text ws : List ℕ) where
-  fields-shown : (k : ℕ) → shownCount ws k 0 ≡ length (classAt (libraryOf text ws) k .fields)
+  -- A class shows as many fields as it has.
+  pub fields-shown : (k : ℕ) → shownCount ws k 0 ≡ length (classAt (libraryOf text ws) k .fields)
   fields-shown k = sym (ap length (shown-members text ws k 0 (omega arith)) ∙ length-upto (memberAt text ws k 0) (shownCount ws k 0))
 
   values-are : (o : ℕ) → valuesFrom text ws o ≡ valuesOf (libraryOf text ws) (objectOf text ws o)

@@ -1,3 +1,9 @@
 pub mod Parts
 pub mod Short
 pub mod OnWords
+pub mod Feeds
+pub mod Ready
+pub mod Room
+pub mod Laws
+pub mod Start
+pub mod Whole

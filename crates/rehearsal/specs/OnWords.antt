@@ -1,46 +1,21 @@
--- Call lines over the lent words: each makes its call there, and on words that represent a world the same is printed as over the model.
+-- On words that represent a world, call lines over the lent words print the same as over the model.
 use Prim.Native.Nat.{ℕ, _≤_}
 use native.Mathlib.Omega.{arith}
 use mathlib.Core.Path.{_≡_, refl, sym, ap, subst, _∙_}
 use mathlib.Core.Option.{Option, none, some}
 use mathlib.Core.List.{List}
-use Rattle.model.specs.Base.{bytes}
 use Rattle.model.specs.Text.{words}
 use Rattle.model.specs.Library.{Library}
 use Rattle.model.specs.Vector.{Program}
 use Rattle.model.specs.Service.{World}
 use Rattle.model.specs.Machine.{Call, call, service}
-use Rattle.model.specs.Rehearsal.{Reply, Lines, printedFor, CallLine, callLine, requestFor, callFor, answerPrinted, replyTo, objectsPrinted, onProgram}
-use Rattle.catalog.specs.View.{libraryOf}
-use Rattle.machine_words.specs.Calls.{After, tablesOf, called}
+use Rattle.model.specs.Rehearsal.{printedFor, CallLine, callLine, callFor, answerPrinted, replyTo, objectsPrinted, onProgram}
+use Rattle.machine_words.specs.Calls.{called}
 use Rattle.machine_refinement.specs.Rep.{Rep}
 use Rattle.machine_refinement.specs.Refines.{refines}
+use Rattle.call_lines.specs.Lent.{Lent, lentLibrary, lentReply, lentLast, onLent}
 use Rattle.rehearsal.specs.Parts.{Short, same-printed}
 use Rattle.rehearsal.specs.Short.{line-front}
-
--- The words and values that are lent beside the text.
-pub record Lent : Type 0 where
-  pub words : List ℕ
-  pub values : List ℕ
-
--- The library that the lent words hold.
-abbrev pub lentLibrary : List ℕ → List ℕ → Library
-lentLibrary text ws = libraryOf text (tablesOf ws)
-
-abbrev pub told : After → Reply Lent
-told x = record { printed = answerPrinted (x .answered); machine = record { words = x .words; values = x .values } }
-
-abbrev pub lentReply : List ℕ → Lent → Option CallLine → Reply Lent
-lentReply text x none = record { printed = bytes "51\n"; machine = x }
-lentReply text x (some c) = told (called text (x .words) (x .values) (callFor (lentLibrary text (x .words)) c))
-
--- The machine in lent memory, whatever is lent: what the code's contracts cite.
-unfoldable pub onLent : List ℕ → Lines Lent
-unfolding callLine requestFor called libraryOf objectsPrinted
-onLent text = record {
-  reply = λ x line. lentReply text x (callLine (words line));
-  last = λ x. let l = lentLibrary text (x .words) in objectsPrinted l (l .objects) (x .values);
-}
 
 pub lent-front-only : (text : List ℕ) (most : ℕ) → 61 ≤ most → Short (onLent text) most
 unfolding onLent
@@ -68,7 +43,7 @@ module _ (text : List ℕ) (p : Program) where
       (refines text (x .words) (x .values) p w rep k .1)
 
   last-same : (x : Lent) (w : World (service p)) → Stands x w
-      → objectsPrinted (lentLibrary text (x .words)) (lentLibrary text (x .words) .objects) (x .values) ≡ objectsPrinted (p .library) (p .library .objects) (w .fields)
+      → lentLast text x ≡ objectsPrinted (p .library) (p .library .objects) (w .fields)
   last-same x w rep =
       ap (λ (l : Library). objectsPrinted l (l .objects) (x .values)) (rep .fits .library)
       ∙ ap (objectsPrinted (p .library) (p .library .objects)) (sym (rep .fields))

@@ -187,19 +187,25 @@ courses =
     (begin 0 ∷ begin 1 ∷ send 0 (to (object 0) 0 1) ∷ send 1 (to (class 1) 0 2) ∷ step 0 ∷ step 1 ∷ step 1 ∷ step 0 ∷ step 1 ∷ step 1 ∷ step 0 ∷ step 1 ∷ step 1 ∷
     commit 1 ∷ send 0 (to (domain 0) 0 4) ∷ replicate 12 (step 0) ++ (commit 0 ∷ begin 0 ∷ send 0 (to (object 0) 0 7) ∷ step 0 ∷ abort 0 ∷ [])) ∷ []
 
--- ---- every row passes, a group at a time
+-- 51 for a line of another form and for a last line without LF, 36 for an unknown name, 40 with its slot; 32 and 34 before an unknown
+-- name, and the values as an open transaction left them; a faulty text; no input.
+abbrev adder : List ℕ
+adder = text ("class a" ∷ "field x" ∷ "method m" ∷ "set x + x arg" ∷ "end" ∷ "object o a 5" ∷ [])
 
--- 51 for a line of another form and for a last line without LF, 36 for an unknown name, 40 with its slot; a faulty text; no input.
 abbrev rehearsals : List Row
 rehearsals =
-    rehearses (text ("class a" ∷ "field x" ∷ "method m" ∷ "set x + x arg" ∷ "end" ∷ "object o a 5" ∷ []))
+    rehearses adder
     (text
     ("begin 0" ∷ "send 0 o m 3" ∷ "step 0" ∷ "step 0" ∷ "begin 1" ∷ "send 1 o m 1" ∷ "send 1 o q 1" ∷ "all 1 b m 1" ∷ "step" ∷ "commit 0" ∷ "tree 1 a m 4" ∷ "begin 8" ∷ []) ++ bytes "abort 1")
     (text ("ok" ∷ "ok" ∷ "going" ∷ "answer 0" ∷ "ok" ∷ "40 0" ∷ "36" ∷ "36" ∷ "51" ∷ "ok" ∷ "ok" ∷ "31" ∷ "51" ∷ "o 8" ∷ [])) ∷
+    rehearses adder (text ("send 0 b m 1" ∷ "begin 0" ∷ "send 0 o m 3" ∷ "step 0" ∷ "send 0 b m 1" ∷ []))
+    (text ("32" ∷ "ok" ∷ "ok" ∷ "going" ∷ "34" ∷ "o 8" ∷ [])) ∷
     rehearses (bytes "class a\nclass a\n") (bytes "begin 0\n") (bytes "refused 13 2\n") ∷
     rehearses lanes [] (text ("lane1 0 0 0" ∷ [])) ∷
     rehearses [] [] [] ∷
     []
+
+-- ---- every row passes, a group at a time
 
 abbrev Passing : List Row → Type 0
 Passing rs = every passes rs ≡ true

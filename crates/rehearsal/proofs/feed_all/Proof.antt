@@ -1,0 +1,72 @@
+-- At each turn what is left of the part leads where all of it leads from the start.
+use Prim.Native.Nat.{_*_, _-_, _≤_}
+use mathlib.Core.Path.{_≡_, refl, sym, _∙_}
+use native.Mathlib.Omega.{arith}
+use lib.ListN.{length, drop}
+use Rattle.call_lines.specs.Lent.{onLent}
+use Rattle.rehearsal.specs.Parts.{fed}
+use Rattle.rehearsal.specs.Feeds.{widest, reached}
+use Rattle.rehearsal.specs.Laws.{fed-end, fed-turn}
+use Rattle.rehearsal.proofs.feed_all.Statement.{statement}
+use Rattle.rehearsal.proofs.feed_all.Tie as tie
+
+abbrev Inv-loop : tie.InvT-loop
+Inv-loop text state₀ values₀ line₀ kept part out₀ begun₀ size₀ i₀ state values line out begun size i =
+    (i ≤ length part) × (begun ≤ length line₀) × (size ≤ widest * i)
+    × (length line ≡ length line₀) × (length out ≡ length out₀) × (length state ≡ length state₀) × (length values ≡ length values₀)
+    × (fed (onLent text) (length line₀) (reached state values line begun out size) (drop i part)
+    ≡ fed (onLent text) (length line₀) (reached state₀ values₀ line₀ kept out₀ 0) part)
+
+abbrev μ-loop : tie.MeasureT-loop
+μ-loop text state₀ values₀ line₀ kept part out₀ begun₀ size₀ i₀ state values line out begun size i =
+    length part - i
+
+loop-holds : tie.Need-loop-holds Inv-loop μ-loop
+loop-holds c = (omega arith, omega arith, omega arith, refl, refl, refl, refl, refl)
+
+take-byte-requires : tie.Need-take-byte-requires Inv-loop μ-loop
+take-byte-requires c κs = (omega arith, omega arith)
+
+loop-again : tie.Need-loop-again Inv-loop μ-loop
+loop-again c =
+    let t = c .before .before .before .before .before .before .before .before in
+    let h = t .before .before .before .before .before .before .before in
+    let a = h .before .before .before .before .before .before .before .args in
+    let f = t .take-byte .ensures in (
+      omega arith,
+      omega (arith, f .short),
+      omega (arith, f .few),
+      omega arith,
+      omega arith,
+      omega arith,
+      omega arith,
+      fed-turn (a .text .now) (a .part .now) (h .loop .i) (length (a .line .now)) (omega arith) (h .loop .inv .3) f ∙ h .loop .inv .7,
+    )
+
+returns : tie.Need-returns Inv-loop μ-loop
+returns c =
+    let h = c .before in
+    let a = h .before .before .before .before .before .before .before .args in
+    record {
+      reaches = sym (h .loop .inv .7) ∙ fed-end (a .text .now) (length (a .line .now)) _ (a .part .now) (h .loop .i) (omega arith);
+      same = h .loop .inv .3;
+      room = omega arith;
+    }
+
+pub feed-all-spec : {M : Type 1} → statement M
+feed-all-spec =
+    tie.close
+    (tie.spec
+    Inv-loop
+    μ-loop
+    loop-holds
+    (λ c. omega arith)
+    take-byte-requires
+    (λ c. omega arith)
+    (λ c. omega arith)
+    loop-again
+    (λ c. omega arith)
+    (λ c. omega arith)
+    (λ c. omega arith)
+    (λ c. omega arith)
+    returns)

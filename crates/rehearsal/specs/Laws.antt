@@ -1,0 +1,161 @@
+-- What the functions that read an input promise, from what their parts do.
+use Prim.Native.Nat.{ℕ, _+_, _≤_, _<_, min}
+use native.Mathlib.Numerals.{add-one}
+use native.Mathlib.Omega.{arith}
+use mathlib.Core.Path.{_≡_, refl, sym, ap, _∙_}
+use mathlib.Core.Bool.{Bool, true, false}
+use mathlib.Core.Option.{Option, none, some}
+use mathlib.Core.List.{List, [], _∷_, _++_}
+use lib.ListN.{length, take, drop, getD, set, length-append, length-take, drop-of-length-le}
+use lib.Seq.{drop-cons, sets-eq, take-at, take-all, take-suc-set, length-take-le, take-append-seam}
+use lib.Dec.{ltb}
+use borrow.Author.Tests.{eq-eqb, ne-eqb, ltb-true, ltb-false}
+use Rattle.model.specs.Base.{bytes}
+use Rattle.model.specs.Text.{words}
+use Rattle.model.specs.Tables.{digits}
+use Rattle.model.specs.Service.{Answer, done, going, answer, refuse, held, stopped}
+use Rattle.model.specs.Rehearsal.{unended, CallLine, callLine, callFor, answerPrinted}
+use Rattle.machine_words.specs.Calls.{called}
+use Rattle.output.specs.Append.{Appended, Printed, appended-none, appended-then, appended-printed}
+use Rattle.output.specs.Digits.{digits-le}
+use Rattle.call_lines.specs.Lent.{Lent, lent, lentLibrary, lentReply, lentLast, onLent}
+use Rattle.call_lines.specs.Says.{Says}
+use Rattle.rehearsal.specs.Parts.{Reached, ended, onByte, next, fed}
+use Rattle.rehearsal.specs.Feeds.{widest, reached, Keeps, Advances, FeedsAll, Finishes}
+use Rattle.rehearsal.specs.Room.{ended-few}
+
+-- ---- a line kept
+
+module _ (line : List ℕ) (kept byte : ℕ) where
+  pub kept-more : kept < length line → Keeps line kept byte (set line kept byte) (kept + 1)
+  kept-more h =
+      let few : length (take kept line ++ (byte ∷ [])) ≤ length line = omega (arith, length-append (take kept line) (byte ∷ []), length-take-le kept line (omega arith)) in
+      record {
+        bytes = rw (add-one, take-suc-set line kept byte h) (sym (take-all (length line) (take kept line ++ (byte ∷ [])) few));
+        short = omega arith;
+      }
+
+  pub kept-full : kept ≡ length line → Keeps line kept byte line kept
+  kept-full e = record { bytes = rw (take-all kept line (omega arith), take-append-seam line (byte ∷ [])); short = omega arith }
+
+-- ---- a line answered
+
+printed-few : (a : Answer) → length (answerPrinted a) ≤ widest
+printed-few done = omega arith
+printed-few going = omega arith
+printed-few (answer v) = omega (arith, digits-le 10 v, length-append (digits 10 v) (bytes "\n"))
+printed-few (refuse n) = omega (arith, digits-le 10 n, length-append (digits 10 n) (bytes "\n"))
+printed-few (held s) = omega (arith, digits-le 10 s, length-append (digits 10 s) (bytes "\n"))
+printed-few stopped = omega arith
+
+-- The line of an answer has at most 18 bytes: `answer`, a space, ten digits and LF.
+pub reply-few : (text : List ℕ) (x : Lent) (o : Option CallLine) → length (lentReply text x o .printed) ≤ widest
+reply-few text x none = omega arith
+reply-few text x (some c) = printed-few (called text (x .words) (x .values) (callFor (lentLibrary text (x .words)) c) .answered)
+
+-- What was written before, followed by the run.
+pub appended-front : {run list list′ : List ℕ} {at end : ℕ} → Appended run list at end list′ → end ≤ length list → take end list′ ≡ take at list ++ run
+appended-front {run} {list} {list′} {at} {end} h fits =
+    let long : at + length run ≤ length list = omega (arith, h .behind) in
+    let size : length (take at list ++ run) ≡ end = omega (arith, h .behind, length-append (take at list) run, length-take-le at list (omega arith)) in
+    ap (take end) (h .stored ∙ sets-eq run list at long)
+    ∙ take-at (take at list ++ run) (drop (at + length run) list) end size
+
+module _ (text state values line : List ℕ) (kept : ℕ) (out : List ℕ) (size byte : ℕ) where
+  x : Reached Lent
+  x = reached state values line kept out size
+
+  pub on-lf : byte ≡ 10 → size + widest ≤ length out → {state′ values′ out′ : List ℕ} {size′ : ℕ} (line′ : List ℕ)
+      → Says (lentReply text (lent state values) (callLine (words (take kept line)))) out size size′ state′ values′ out′
+      → Advances text state values line kept out size byte state′ values′ line′ 0 out′ size′
+  unfolding x onLent
+  on-lf e room {state′} {values′} {out′} {size′} line′ a =
+      let o = callLine (words (take kept line)) in
+      let few : size′ ≤ size + widest = omega (arith, a .written .behind, reply-few text (lent state values) o) in
+      record {
+        reaches =
+            ap (onByte (onLent text) (length line) x byte) (eq-eqb byte 10 e)
+            ∙ ap (λ (l : List ℕ). record { out = l; machine = lentReply text (lent state values) o .machine; line = [] }) (sym (appended-front (a .written) (omega arith)))
+            ∙ ap (λ (y : Lent). record { out = take size′ out′; machine = y; line = [] }) (a .left);
+        short = omega arith;
+        few = few;
+      }
+
+  pub on-other : (byte ≡ 10 → ⊥) → {line′ : List ℕ} {kept′ : ℕ} → Keeps line kept byte line′ kept′ → Advances text state values line kept out size byte state values line′ kept′ out size
+  unfolding x
+  on-other e {line′} {kept′} k =
+      record {
+        reaches =
+            ap (onByte (onLent text) (length line) x byte) (ne-eqb byte 10 e)
+            ∙ ap (λ (l : List ℕ). record { out = take size out; machine = lent state values; line = l }) (sym (k .bytes));
+        short = k .short;
+        few = omega arith;
+      }
+
+-- ---- a loop over the bytes of a part
+
+module _ (text : List ℕ) (most : ℕ) (y : Reached Lent) (part : List ℕ) (i : ℕ) where
+  pub fed-end : length part ≤ i → fed (onLent text) most y (drop i part) ≡ y
+  unfolding fed
+  fed-end h = rw (drop-of-length-le part h)
+
+  fed-more : i < length part → fed (onLent text) most y (drop i part) ≡ fed (onLent text) most (next (onLent text) most y (getD part i 0)) (drop (i + 1) part)
+  unfolding fed
+  fed-more h = rw (add-one, drop-cons part i 0 h)
+
+-- One turn: a byte more is read.
+pub fed-turn : (text part : List ℕ) (i most : ℕ) {state values line state′ values′ line′ out out′ : List ℕ} {kept size kept′ size′ : ℕ} → i < length part → length line ≡ most
+    → Advances text state values line kept out size (getD part i 0) state′ values′ line′ kept′ out′ size′
+    → fed (onLent text) most (reached state′ values′ line′ kept′ out′ size′) (drop (i + 1) part) ≡ fed (onLent text) most (reached state values line kept out size) (drop i part)
+fed-turn text part i most {state} {values} {line} {out = out} {kept = kept} {size = size} h e a =
+    let x = reached state values line kept out size in
+    sym (fed-more text most x part i h
+    ∙ ap (λ (n : ℕ). fed (onLent text) most (next (onLent text) n x (getD part i 0)) (drop (i + 1) part)) (sym e)
+    ∙ ap (λ (y : Reached Lent). fed (onLent text) most y (drop (i + 1) part)) (a .reaches))
+
+-- ---- as much as there is room for
+
+take-least : (kept : ℕ) (line : List ℕ) (n : ℕ) → n ≡ min kept (length line) → take n line ≡ take kept line
+take-least kept line n e = go (ltb (length line) kept) refl
+  where
+    go : (t : Bool) → ltb (length line) kept ≡ t → take n line ≡ take kept line
+    go false t = let h = ltb-false (length line) kept t in let q : n ≡ kept = omega arith in ap (λ (k : ℕ). take k line) q
+    go true t = let h = ltb-true (length line) kept t in take-all n line (omega arith) ∙ sym (take-all kept line (omega arith))
+
+pub feeds-begun : {text state values line part out state′ values′ line′ out′ : List ℕ} {kept begun kept′ size′ : ℕ} → begun ≡ min kept (length line)
+    → FeedsAll text state values line begun part out state′ values′ line′ kept′ out′ size′ → FeedsAll text state values line kept part out state′ values′ line′ kept′ out′ size′
+feeds-begun {text} {state} {values} {line} {part} {kept = kept} {begun = begun} e f = record {
+  reaches =
+      ap (λ (l : List ℕ). fed (onLent text) (length line) (record { out = []; machine = lent state values; line = l }) part) (sym (take-least kept line begun e))
+      ∙ f .reaches;
+  same = f .same;
+  room = f .room;
+}
+
+-- ---- the end of the input
+
+module _ (line : List ℕ) (kept n : ℕ) (e : n ≡ min kept (length line)) where
+  few : length (take kept line) ≡ n
+  few = omega (arith, length-take kept line)
+
+  pub unended-none : (out : List ℕ) → n ≡ 0 → Appended (unended (take kept line)) out 0 0 out
+  unended-none out z = go (take kept line) (few ∙ z)
+    where
+      go : (l : List ℕ) → length l ≡ 0 → Appended (unended l) out 0 0 out
+      go [] q = appended-none out 0
+      go (b ∷ l) q = absurd (omega arith)
+
+  pub unended-some : (n ≡ 0 → ⊥) → bytes "51\n" ≡ unended (take kept line)
+  unended-some h = go (take kept line) (λ q. h (sym few ∙ q))
+    where
+      go : (l : List ℕ) → (length l ≡ 0 → ⊥) → bytes "51\n" ≡ unended l
+      go [] k = absurd (k refl)
+      go (b ∷ l) k = refl
+
+-- 51 or nothing, then the objects' lines.
+pub finishes : (text state values line : List ℕ) (kept : ℕ) {out out₁ out₂ : List ℕ} {at size : ℕ} → Appended (unended (take kept line)) out 0 at out₁
+    → Appended (lentLast text (lent state values)) out₁ at size out₂ → Finishes text state values line kept out size out₂
+unfolding onLent
+finishes text state values line kept {out} {out₁} {out₂} {at} {size} h k =
+    let all : Printed (ended (onLent text) (lent state values) (take kept line)) out size out₂ = appended-printed (appended-then h k) in
+    record { printed = all; few = omega (arith, all .count, ended-few text (lent state values) (take kept line)) }
