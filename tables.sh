@@ -1,9 +1,11 @@
 #!/bin/sh
 # Proves and builds `tables` where that is not done yet, and runs it on a class text: ./tables.sh [FILE]
 set -eu
-text=${1:-$(dirname "$0")/samples/lanes.txt}
-text=$(readlink -f "$text")
-cd "$(dirname "$0")"
-rt check tables > target.log 2>&1 || { tail -n 5 target.log; exit 1; }
-rm -f target.log
-exec target/bin/tables < "$text"
+here=$(dirname "$0")
+. "$here/host/scripts/program.sh"
+lend "${1:-$here/samples/lanes.txt}"
+cd "$here"
+prove tables
+target/bin/tables < "$folder/lib.txt" > "$folder/printed"
+explain "$(head -n 1 "$folder/printed")"
+cat "$folder/printed"

@@ -1,11 +1,14 @@
-//! How fast the proved library is: beside the second implementation, both in turn in one run, and, where the two programs of
-//! berkeley.c and transactions.c are named, beside Berkeley DB's lock subsystem. Prints the tables of docs/PERFORMANCE.md.
+//! How fast the proved library and the program `rehearse` are: beside the second implementation, both in turn in one run, and, where
+//! the two programs of berkeley.c and transactions.c are named, beside Berkeley DB's lock subsystem. Prints the tables of
+//! docs/PERFORMANCE.md.
 //!   benchmark [BERKELEY TRANSACTIONS]
 //!   benchmark locks BERKELEY TRANSACTIONS   the last of the tables alone
+//!   benchmark rehearse       the table of `rehearse` alone
 //!   benchmark profile        makes some of each call once, for callgrind
 //!   benchmark transactions   makes 100 transactions of a send to an object, for callgrind
 
 mod clock;
+mod rehearsal;
 mod texts;
 
 use clock::{both, each, shown, Time};
@@ -154,6 +157,7 @@ fn main() {
         ["profile"] => return profile(),
         ["transactions"] => return transactions(EMPTY),
         ["locks", berkeley, transactions] => return locks(berkeley, transactions),
+        ["rehearse"] => return rehearsal::table(),
         _ => {}
     }
     let samples = texts::samples();
@@ -162,6 +166,7 @@ fn main() {
     machine(&samples);
     spread();
     growth();
+    rehearsal::table();
     if let [berkeley, transactions] = words[..] {
         locks(berkeley, transactions);
     }

@@ -1,9 +1,11 @@
-//! The proved library and the second implementation, compared call by call. A difference panics with the text.
+//! The proved library and the program `rehearse` beside the second implementation, compared call by call. A difference panics with the
+//! text.
 
 pub mod altered;
 pub mod guard;
 pub mod library;
 pub mod machine;
+pub mod rehearsal;
 pub mod texts;
 
 use std::path::PathBuf;
@@ -15,20 +17,6 @@ pub fn archive() -> PathBuf {
         Err(_) => PathBuf::from(env!("CARGO_MANIFEST_DIR")).join("../../target/staticlib"),
     };
     folder.join("libabi.a")
-}
-
-/// A file of the vectors.
-pub fn vector(name: &str) -> Vec<u8> {
-    let path = PathBuf::from(env!("CARGO_MANIFEST_DIR")).join("../vectors").join(name);
-    std::fs::read(&path).unwrap_or_else(|e| panic!("{}: {e}", path.display()))
-}
-
-/// The numbers of the vectors that have a call list.
-pub fn call_lists() -> Vec<u64> {
-    let folder = PathBuf::from(env!("CARGO_MANIFEST_DIR")).join("../vectors");
-    let all: Vec<u64> = (0..100).filter(|n| folder.join(format!("{n}.calls")).is_file()).collect();
-    assert_eq!(all.len(), 95);
-    all
 }
 
 /// A number from the environment: how much a run does, where it is to be more or less than the gate's.

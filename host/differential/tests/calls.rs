@@ -2,33 +2,30 @@
 
 use differential::library::Lent;
 use differential::machine::{make, Counts, List};
-use differential::{amount, call_lists, each_seed, vector};
+use differential::{amount, each_seed};
 use generate::calls::{text_to_call, values_for};
 use generate::{limits, Random};
 use reference::lines;
 use reference::machine::{Answer, Call, Target};
+use reference::stored;
 use wrapper::machine::lent::{self, Outcome};
 use wrapper::machine::{Machine, STATE_WORDS};
-
-fn lines_of(name: &str) -> Vec<String> {
-    String::from_utf8(vector(name)).unwrap().lines().map(String::from).collect()
-}
 
 /// The library on each vector's calls: what its trace says, then once more beside the second implementation and the course.
 #[test]
 fn vectors() {
-    let lists = call_lists();
+    let lists = stored::numbers("trace");
     each_seed(lists.len() as u64, |k| {
         let n = lists[k as usize];
-        let text = vector(&format!("{n}.txt"));
+        let text = stored::bytes(n, "txt");
         let library = reference::read(&text).unwrap();
         let start = library.starting_values();
-        let calls = lines_of(&format!("{n}.calls"));
-        let trace = lines_of(&format!("{n}.trace"));
+        let (calls, trace) = (stored::lines(n, "calls"), stored::lines(n, "trace"));
+        let call = |line: &str| lines::call(&library, line.as_bytes()).unwrap();
         let mut values = start.clone();
         let mut machine = Machine::start(&text, &mut values).unwrap();
         for (k, line) in calls.iter().enumerate() {
-            let answer = make(&mut machine, lines::call(&library, line));
+            let answer = make(&mut machine, call(line));
             let found = lines::traced(answer, machine.values());
             assert_eq!(found.trim_end(), trace[k].trim_end(), "list {n}, call {}: {line}", k + 1);
         }
@@ -36,7 +33,7 @@ fn vectors() {
         let mut machine = Lent::start(&mut Random::new(n), &text, &start).unwrap();
         let mut list = List::new(&library, &start, &mut machine);
         for line in &calls {
-            list.call(lines::call(&library, line));
+            list.call(call(line));
         }
         list.end();
     });

@@ -1,27 +1,31 @@
 //! Texts: the vectors, each limit, and generated texts, whole and damaged. CISHMOLAQ_TEXTS sets how many are generated.
 
 use differential::texts::compare_named;
-use differential::{amount, each_seed, vector};
+use differential::{amount, each_seed};
 use generate::text::{text, LARGE, MIDDLE, SMALL};
 use generate::{damage, limits, Random};
+use reference::stored;
 use std::collections::BTreeMap;
 
 /// The library on each vector: what the vector's files say, then every call beside the second implementation.
 #[test]
 fn vectors() {
-    each_seed(60, |n| {
-        let mut random = Random::new(n);
-        for (name, tables) in [(format!("{n}.txt"), format!("{n}.tables")), (format!("{n}.bad"), format!("{n}.bad.tables"))] {
-            let text = vector(&name);
+    for (kind, tables) in [("txt", "tables"), ("bad", "bad.tables")] {
+        let numbers = stored::numbers(tables);
+        each_seed(numbers.len() as u64, |k| {
+            let n = numbers[k as usize];
+            let text = stored::bytes(n, kind);
             let mut out = vec![0; wrapper::LONGEST_TABLES];
             let size = wrapper::print_tables(&text, &mut out).unwrap();
-            assert_eq!(out[..size], vector(&tables), "tables of {name}");
-            compare_named(&name, &text, &mut random);
-        }
+            assert_eq!(out[..size], stored::bytes(n, tables), "tables of {n}.{kind}");
+            compare_named(&format!("{n}.{kind}"), &text, &mut Random::new(n));
+        });
+    }
+    for n in stored::numbers("image") {
         let mut image = vec![0; wrapper::LONGEST_IMAGE];
-        let size = wrapper::compile(&vector(&format!("{n}.txt")), &mut image).unwrap();
-        assert_eq!(image[..size], vector(&format!("{n}.image")), "image of {n}");
-    });
+        let size = wrapper::compile(&stored::bytes(n, "txt"), &mut image).unwrap();
+        assert_eq!(image[..size], stored::bytes(n, "image"), "image of {n}");
+    }
 }
 
 #[test]

@@ -1,6 +1,7 @@
 //! What the generator calls valid is accepted by the second implementation, and its lists keep demand 3 there.
 
 use generate::calls::{text_to_call, Caller};
+use generate::lines::line;
 use generate::text::{text, LARGE, MIDDLE, SMALL};
 use generate::{damage, limits, Random};
 use reference::course::Course;
@@ -80,5 +81,25 @@ fn lists_keep_the_commit_order() {
         assert!(machine.idle());
         assert_eq!(machine.values(), course.values(), "seed {seed}");
         assert!(course.right(), "seed {seed}");
+    }
+}
+
+#[test]
+fn lines_say_their_calls() {
+    for seed in 0..200 {
+        let mut random = Random::new(seed + 4_000_000);
+        let library = reference::read(&text_to_call(&mut random)).unwrap();
+        let start = library.starting_values();
+        let mut machines = (Machine::start(&library, &start).unwrap(), Machine::start(&library, &start).unwrap());
+        let mut caller = Caller::new(&mut random, &library);
+        for _ in 0..100 {
+            let call = caller.next(&mut random, &library);
+            let line = line(&library, call);
+            let read = reference::lines::call(&library, line.trim_end().as_bytes()).expect("a call line");
+            let answer = machines.0.call(call);
+            assert_eq!(machines.1.call(read), answer, "seed {seed}: {call:?} as {line}");
+            caller.told(call, answer);
+        }
+        assert_eq!(machines.0.values(), machines.1.values(), "seed {seed}");
     }
 }

@@ -42,7 +42,7 @@ pub fn image(text: &[u8]) -> Result<Vec<u8>, Fault> {
 pub fn tables(text: &[u8]) -> String {
     let library = match read(text) {
         Ok(library) => library,
-        Err(fault) => return format!("refused {} {}\n", fault.number, fault.line),
+        Err(fault) => return format!("{fault}\n"),
     };
     let mut out = String::new();
     for (class, vectors) in library.classes.iter().zip(all(&library)) {

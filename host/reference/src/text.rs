@@ -10,6 +10,13 @@ pub struct Fault {
     pub line: usize,
 }
 
+/// As `tables` and `rehearse` print it.
+impl std::fmt::Display for Fault {
+    fn fmt(&self, out: &mut std::fmt::Formatter) -> std::fmt::Result {
+        write!(out, "refused {} {}", self.number, self.line)
+    }
+}
+
 /// A statement with its place in the text: where it begins and how long it is.
 #[derive(Clone, Debug)]
 pub struct Placed {

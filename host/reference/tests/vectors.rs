@@ -1,50 +1,36 @@
-//! The second implementation on the repository's vectors: texts, damaged texts and call lists with their answers.
+//! The second implementation on the repository's vectors: texts, damaged texts, call lists and odd call lines with their answers.
 
 use reference::course::Course;
 use reference::image::{image, tables};
 use reference::lines::{call, objects, traced};
 use reference::machine::{Call, Machine};
+use reference::rehearsal::rehearsed;
+use reference::stored::{bytes, bytes_if_any, lines, numbers, printed};
 use reference::text::read;
-use std::path::PathBuf;
-
-fn file(name: &str) -> Vec<u8> {
-    let path = PathBuf::from(env!("CARGO_MANIFEST_DIR")).join("../vectors").join(name);
-    std::fs::read(&path).unwrap_or_else(|e| panic!("{}: {e}", path.display()))
-}
-
-fn lines(name: &str) -> Vec<String> {
-    String::from_utf8(file(name)).unwrap().lines().map(String::from).collect()
-}
 
 #[test]
 fn texts() {
-    for n in 0..60 {
-        let text = file(&format!("{n}.txt"));
-        assert_eq!(tables(&text).as_bytes(), file(&format!("{n}.tables")), "tables of {n}");
-        assert_eq!(image(&text).unwrap(), file(&format!("{n}.image")), "image of {n}");
-        let damaged = file(&format!("{n}.bad"));
-        assert_eq!(tables(&damaged).as_bytes(), file(&format!("{n}.bad.tables")), "tables of damaged {n}");
+    for n in numbers("tables") {
+        assert_eq!(tables(&bytes(n, "txt")).as_bytes(), bytes(n, "tables"), "tables of {n}");
     }
-}
-
-/// The numbers of the vectors that have a call list.
-fn lists() -> Vec<u64> {
-    let folder = PathBuf::from(env!("CARGO_MANIFEST_DIR")).join("../vectors");
-    let all: Vec<u64> = (0..100).filter(|n| folder.join(format!("{n}.calls")).is_file()).collect();
-    assert_eq!(all.len(), 95);
-    all
+    for n in numbers("image") {
+        assert_eq!(image(&bytes(n, "txt")).unwrap(), bytes(n, "image"), "image of {n}");
+    }
+    for n in numbers("bad") {
+        assert_eq!(tables(&bytes(n, "bad")).as_bytes(), bytes(n, "bad.tables"), "tables of damaged {n}");
+    }
 }
 
 #[test]
 fn call_lists() {
-    for n in lists() {
-        let library = read(&file(&format!("{n}.txt"))).unwrap();
+    for n in numbers("trace") {
+        let library = read(&bytes(n, "txt")).unwrap();
         let start = library.starting_values();
         let mut machine = Machine::start(&library, &start).unwrap();
         let mut course = Course::start(&library, &start);
-        let trace = lines(&format!("{n}.trace"));
-        for (k, line) in lines(&format!("{n}.calls")).iter().enumerate() {
-            let call = call(&library, line);
+        let trace = lines(n, "trace");
+        for (k, line) in lines(n, "calls").iter().enumerate() {
+            let call = call(&library, line.as_bytes()).unwrap();
             let answer = machine.call(call);
             course.feed(call, answer);
             let found = traced(answer, &machine.values());
@@ -59,5 +45,13 @@ fn call_lists() {
         assert!(machine.idle());
         assert_eq!(machine.values(), course.values(), "list {n}: the course's fields");
         assert!(course.right(), "list {n}: the course's answers");
+    }
+}
+
+#[test]
+fn rehearsals() {
+    for n in numbers("calls") {
+        let text = bytes_if_any(n, "txt").unwrap_or_default();
+        assert_eq!(rehearsed(&text, &bytes(n, "calls")).as_bytes(), printed(n), "rehearsal {n}");
     }
 }
