@@ -2,7 +2,7 @@
  * takes a while. Prints the time of one in nanoseconds. The modes are those of class lane of samples/lanes.txt: a method on
  * an object, and on a class a method with the flag that says whether all its objects are meant.
  *   berkeley plain      one locker, an environment for one thread
- *   berkeley lockers    a locker of its own for each transaction, as begin and commit have it
+ *   berkeley lockers    a locker of its own for each transaction, made and freed with it
  *   berkeley threads    one locker, an environment for several threads
  *   berkeley service    a locker for each transaction, for several threads
  *   berkeley processes  a locker for each transaction, for several processes: the environment is in files */

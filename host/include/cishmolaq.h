@@ -76,8 +76,9 @@ uint32_t cishmolaq_print_tables(const uint8_t *text, size_t text_length, uint8_t
  * passes the same three, unaltered by anyone else, to every call. The state's words mean nothing to the caller
  * (docs/STATE.md has them). The values may be read between calls: object by object, each object's fields in order.
  *
- * Slots 0 to 7 each hold at most one open transaction. Places are numbered from 0: objects and classes in text order, methods
- * in the method order of the object's class or of the named class.
+ * Slots 0 to 7 each hold at most one open transaction. A granted send to a closed slot opens it; commit, abort and 41 close it.
+ * Places are numbered from 0: objects and classes in text order, methods in the method order of the object's class or of the named
+ * class.
  *
  * Every call answers a number and sets *detail:
  *    0  done (a send: granted)
@@ -86,13 +87,12 @@ uint32_t cishmolaq_print_tables(const uint8_t *text, size_t text_length, uint8_t
  *   21  `state_words` is below CISHMOLAQ_STATE_WORDS
  *   24  text, values and state do not fit: one names a place or a name that another lacks, or a limit is passed
  *   31  slot above 7
- *   32  slot not open
- *   33  slot open
- *   34  message running
- *   35  no message running
- *   36  no such object, class or method
+ *   32  slot not open (step, commit, abort)
+ *   34  message running (send, commit)
+ *   35  no message running (step)
+ *   36  no such object, class or method (send)
  *   40  another slot's locks clash; the lowest such slot, which is open, is in *detail
- *   41  stopped; the transaction is undone and its slot is free
+ *   41  stopped; the transaction is undone and its slot is closed
  * *detail is 0 beside any number but 2 and 40. 21 is tested first, then 24 as far as lengths and the mark of a start show it, then
  * 31 to 36 in this order, then what else of 24 the call comes upon, then 40. With 21 to 40 nothing is altered. 21 and 24 are given
  * only where a call is lent something other than start and the calls left. On such memory a call gives 24 or goes on by the rules
@@ -107,7 +107,7 @@ uint32_t cishmolaq_print_tables(const uint8_t *text, size_t text_length, uint8_t
 #define CISHMOLAQ_CLASS 1  /* a class's own objects */
 #define CISHMOLAQ_DOMAIN 2 /* the objects of a class and of all its descendants */
 
-/* Starts a machine on a text and a list of values, which is taken as it is: fills the state, with all slots free.
+/* Starts a machine on a text and a list of values, which is taken as it is: fills the state, with all slots closed.
  * Answers 0, *line being 0; or, with nothing written,
  *   11 to 17, *line being the line;
  *   21  the state is too short, *line being 0;
@@ -115,14 +115,10 @@ uint32_t cishmolaq_print_tables(const uint8_t *text, size_t text_length, uint8_t
 uint32_t cishmolaq_start(const uint8_t *text, size_t text_length, const uint32_t *values, size_t value_count, uint32_t *state,
                          size_t state_words, size_t *line);
 
-/* Opens a slot for a transaction.
- * Answers 0; or 21, 24, 31, 33. */
-uint32_t cishmolaq_begin(const uint8_t *text, size_t text_length, uint32_t *state, size_t state_words, const uint32_t *values,
-                         size_t value_count, uint32_t slot, uint32_t *detail);
-
 /* Sends the method at a place, with an argument, to the target with this kind and number. A granted send has its locks until
  * commit or abort (or 41), and its message is at its start. Any kind above 2 names nothing: 36.
- * Answers 0; or 21, 24, 31, 32, 34, 36, 40. */
+ * A send to a closed slot is tested for 31, 36 and 40, in this order: granted, it opens the slot; else the slot stays closed.
+ * Answers 0; or 21, 24, 31, 34, 36, 40. */
 uint32_t cishmolaq_send(const uint8_t *text, size_t text_length, uint32_t *state, size_t state_words, const uint32_t *values,
                         size_t value_count, uint32_t slot, uint32_t kind, uint32_t number, uint32_t method, uint32_t argument,
                         uint32_t *detail);
@@ -132,12 +128,12 @@ uint32_t cishmolaq_send(const uint8_t *text, size_t text_length, uint32_t *state
 uint32_t cishmolaq_step(const uint8_t *text, size_t text_length, uint32_t *state, size_t state_words, uint32_t *values,
                         size_t value_count, uint32_t slot, uint32_t *detail);
 
-/* Frees the slot and leaves the values.
+/* Closes the slot and leaves the values.
  * Answers 0; or 21, 24, 31, 32, 34. */
 uint32_t cishmolaq_commit(const uint8_t *text, size_t text_length, uint32_t *state, size_t state_words, const uint32_t *values,
                           size_t value_count, uint32_t slot, uint32_t *detail);
 
-/* Puts back, in each field that the transaction set, the value before its first set, and frees the slot.
+/* Puts back, in each field that the transaction set, the value before its first set, and closes the slot.
  * Answers 0; or 21, 24, 31, 32. */
 uint32_t cishmolaq_abort(const uint8_t *text, size_t text_length, uint32_t *state, size_t state_words, uint32_t *values,
                          size_t value_count, uint32_t slot, uint32_t *detail);

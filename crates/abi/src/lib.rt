@@ -9,7 +9,7 @@ ghost use lib.ListN.{length};
 ghost use Rattle.model.specs.Told.{checkAnswer};
 ghost use Rattle.model.specs.Image.{compileAnswer, compiledInto, statementAnswer, valuesAnswer, startingValuesInto};
 ghost use Rattle.model.specs.Tables.{printAnswer, printedInto};
-ghost use Rattle.model.specs.Service.{begin, send, step, commit, abort, callNumber, callDetail};
+ghost use Rattle.model.specs.Service.{send, step, commit, abort, callNumber, callDetail};
 ghost use Rattle.model.specs.Machine.{to, startAnswer};
 ghost use Rattle.machine_checks.specs.Told.{told};
 ghost use Rattle.machine_locks.specs.Aimed.{aimed};
@@ -157,22 +157,7 @@ fn target_of(kind: u32, number: u32) -> Target
     }
 }
 
-// Opens a slot for a transaction.
-#[no_mangle]
-pub extern "C" fn cishmolaq_begin(
-    text: &[u8],
-    state: &mut [u32],
-    values: &[u32],
-    slot: u32,
-    detail: &mut u32,
-) -> u32
-    ensures { λ r. ⌜ Called (now (text .entry)) (now (state .entry)) (now (values .entry)) (begin slot) r (now (detail .exit)) (now (state .exit)) (now (values .entry)) ⌝ }
-{
-    let begun = cishmolaq::begin(text, state, values, slot);
-    tell_call(begun, detail)
-}
-
-// Sends a message to a target, by its kind and its number.
+// Sends a message to a target, by its kind and its number. A granted send opens its slot if that is closed.
 #[no_mangle]
 pub extern "C" fn cishmolaq_send(
     text: &[u8],

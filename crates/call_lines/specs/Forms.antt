@@ -6,10 +6,10 @@ use mathlib.Core.Option.{Option, none, some}
 use mathlib.Core.List.{List, [], _∷_}
 use native.Mathlib.Omega.{arith}
 use lib.ListN.{take, drop}
-use Rattle.model.specs.Base.{bytes, same, every}
+use Rattle.model.specs.Base.{bytes, same}
 use Rattle.model.specs.Text.{words}
 use Rattle.model.specs.Word.{Name, isName, isNumber, decimal}
-use Rattle.model.specs.Rehearsal.{CallLine, atObject, atClass, atDomain, beginLine, stepLine, commitLine, abortLine, sendLine, slotForm, sendForm, callLine}
+use Rattle.model.specs.Rehearsal.{CallLine, atObject, atClass, atDomain, stepLine, commitLine, abortLine, sendLine, slotForm, sendForm, callLine}
 use Rattle.text_lex.specs.Number.{numberOf}
 use Rattle.text_lex.specs.Scan.{isByte, before}
 use Rattle.text_lex.specs.Piece.{wordsAfter, first, others, isEmpty, first-piece}
@@ -115,23 +115,19 @@ send-found k s ws {n} {m} en em et eo =
 -- ---- the keywords
 
 module _ (k : List ℕ) (s : ℕ) where
-  pub slot-begin : same k (bytes "begin") ≡ true → slotForm k s ≡ some (beginLine s)
-  slot-begin e = rw e
+  pub slot-step : same k (bytes "step") ≡ true → slotForm k s ≡ some (stepLine s)
+  slot-step e = rw e
 
-  module _ (b : same k (bytes "begin") ≡ false) where
-    pub slot-step : same k (bytes "step") ≡ true → slotForm k s ≡ some (stepLine s)
-    slot-step e = rw (b, e)
+  module _ (t : same k (bytes "step") ≡ false) where
+    pub slot-commit : same k (bytes "commit") ≡ true → slotForm k s ≡ some (commitLine s)
+    slot-commit e = rw (t, e)
 
-    module _ (t : same k (bytes "step") ≡ false) where
-      pub slot-commit : same k (bytes "commit") ≡ true → slotForm k s ≡ some (commitLine s)
-      slot-commit e = rw (b, t, e)
+    module _ (c : same k (bytes "commit") ≡ false) where
+      pub slot-abort : same k (bytes "abort") ≡ true → slotForm k s ≡ some (abortLine s)
+      slot-abort e = rw (t, c, e)
 
-      module _ (c : same k (bytes "commit") ≡ false) where
-        pub slot-abort : same k (bytes "abort") ≡ true → slotForm k s ≡ some (abortLine s)
-        slot-abort e = rw (b, t, c, e)
-
-        pub slot-none : same k (bytes "abort") ≡ false → slotForm k s ≡ none
-        slot-none e = rw (b, t, c, e)
+      pub slot-none : same k (bytes "abort") ≡ false → slotForm k s ≡ none
+      slot-none e = rw (t, c, e)
 
 module _ (k : List ℕ) (s : ℕ) (n m : Name) (a : ℕ) where
   pub send-object : same k (bytes "send") ≡ true → sendForm k s n m a ≡ some (sendLine s (atObject n) m a)

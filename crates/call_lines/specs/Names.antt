@@ -1,7 +1,7 @@
 -- Names of a call line looked up in the lent words.
 use Prim.Native.Nat.{ℕ, _≤_, _<_}
 use native.Mathlib.Omega.{arith}
-use mathlib.Core.Path.{_≡_, refl, sym, ap, subst, _∙_}
+use mathlib.Core.Path.{_≡_, sym, ap, subst, _∙_}
 use mathlib.Core.List.{List, map}
 use lib.ListN.{length, getD, List·getD-eq-default}
 use Rattle.layout.specs.Layout.{objectClassAt}
@@ -9,10 +9,10 @@ use Rattle.model.specs.Base.{same, firstAt, upto}
 use Rattle.model.specs.Word.{Name}
 use Rattle.model.specs.Library.{Class, Object, classAt, classNumber, memberPlace}
 use Rattle.model.specs.Machine.{object, class, domain, to, send}
-use Rattle.model.specs.Rehearsal.{Aim, atObject, atClass, atDomain, sendLine, classOfNumber, requestFor, callFor}
+use Rattle.model.specs.Rehearsal.{atObject, atClass, atDomain, sendLine, classOfNumber, requestFor, callFor}
 use Rattle.laws.specs.Upto.{length-upto, getD-upto}
 use Rattle.catalog.specs.View.{classCount, objectCount, objectWord, membersOf, classOf, objectOf, libraryOf}
-use Rattle.catalog.specs.Look.{class-at, class-past, class-count, object-count}
+use Rattle.catalog.specs.Look.{class-at, class-past, class-count}
 use Rattle.machine_words.specs.Calls.{tablesOf, called}
 use Rattle.machine_checks.specs.declared.Outcome.{Outcome}
 use Rattle.machine_checks.specs.Told.{Leaves}

@@ -31,10 +31,6 @@ fn slot_call(
     requires { ⌜ at + 18 < 2 ^ 64 ⌝ }
     ensures { λ r. ⌜ Says (lentReply (now (text .entry)) (lent (now (state .entry)) (now (values .entry))) (slotForm (now (keyword .entry)) slot)) (now (out .entry)) at r (now (state .exit)) (now (values .exit)) (now (out .exit)) ⌝ }
 {
-    if text_lex::same(keyword, b"begin") {
-        let outcome = machine_calls::begin(text, state, values, slot);
-        return answer::put_outcome(out, at, outcome);
-    }
     if text_lex::same(keyword, b"step") {
         let outcome = machine_calls::step::step(text, state, values, slot);
         return answer::put_outcome(out, at, outcome);

@@ -1,4 +1,4 @@
--- Demand 1 of the five calls, whatever is lent: what is altered where a number is given, what a number means, and what lies past
+-- Demand 1 of the four calls, whatever is lent: what is altered where a number is given, what a number means, and what lies past
 -- the machine's words.
 use Prim.Native.Nat.{ℕ, zero, suc, _+_, _/_, _%_, _^_, _≤_, _<_}
 use lib.Bits.{bitOr}
@@ -10,10 +10,10 @@ use mathlib.Core.List.{List}
 use lib.ListN.{length, getD, drop, set, length-set}
 use lib.Dec.{eqb, leb, ltb, eqb·suc-zero}
 use borrow.Author.Tests.{leb-false, eqb-false, not-true}
-use Rattle.layout.specs.Layout.{valuesMost, phaseAt, changedAt, marksAt, notesAt, rowWords, stateWords}
+use Rattle.layout.specs.Layout.{valuesMost, changedAt, marksAt, notesAt, rowWords, stateWords}
 use Rattle.model.specs.Base.{least}
 use Rattle.model.specs.Service.{Answer, done, going, answer, refuse, held, stopped}
-use Rattle.model.specs.Machine.{Call, begin, send, step, commit, abort, Request, to, object, class, domain}
+use Rattle.model.specs.Machine.{Call, send, step, commit, abort, Request, to, object, class, domain}
 use Rattle.laws.specs.Basics.{least-some}
 use Rattle.laws.specs.Lists.{both-left, both-right}
 use Rattle.laws.specs.Bits.{bit}
@@ -178,29 +178,26 @@ module _ (text ws values : List ℕ) (s : ℕ) where
 -- ---- by the phase of its slot
 
 module _ (text ws values : List ℕ) where
-  closed-keeps : (c : Call) → Within ws (slotIn c) → Keeps ws values (slotIn c) (onClosed ws values c)
-  closed-keeps (begin s) h = record { kept = tt; past = row-past text ws values s h (set (rowOf ws s) phaseAt 1) (length-set (rowOf ws s) phaseAt 1 ∙ row-size ws s h); holder = tt; number = tt }
-  closed-keeps (send s q) h = refuses text ws values s 32 (omega arith) (omega arith)
+  closed-keeps : (c : Call) → Within ws (slotIn c) → Keeps ws values (slotIn c) (onClosed text ws values c)
+  closed-keeps (send s q) h = sends text ws values s h q
   closed-keeps (step s) h = refuses text ws values s 32 (omega arith) (omega arith)
   closed-keeps (commit s) h = refuses text ws values s 32 (omega arith) (omega arith)
   closed-keeps (abort s) h = refuses text ws values s 32 (omega arith) (omega arith)
 
   idle-keeps : (c : Call) → Within ws (slotIn c) → Keeps ws values (slotIn c) (onIdle text ws values c)
-  idle-keeps (begin s) h = refuses text ws values s 33 (omega arith) (omega arith)
   idle-keeps (send s q) h = sends text ws values s h q
   idle-keeps (step s) h = refuses text ws values s 35 (omega arith) (omega arith)
   idle-keeps (commit s) h = frees text ws values s h values
   idle-keeps (abort s) h = frees text ws values s h (putBack (noteAt (rowOf ws s)) values)
 
   running-keeps : (c : Call) → Within ws (slotIn c) → Keeps ws values (slotIn c) (onRunning text ws values c)
-  running-keeps (begin s) h = refuses text ws values s 33 (omega arith) (omega arith)
   running-keeps (send s q) h = refuses text ws values s 34 (omega arith) (omega arith)
   running-keeps (step s) h = steps text ws values s h (decided text (tablesOf ws) (rowOf ws s) values)
   running-keeps (commit s) h = refuses text ws values s 34 (omega arith) (omega arith)
   running-keeps (abort s) h = frees text ws values s h (putBack (noteAt (rowOf ws s)) values)
 
   phase-keeps : (c : Call) → Within ws (slotIn c) → (x y z : Bool)
-      → Keeps ws values (slotIn c) (cond x (onClosed ws values c) (cond y (onIdle text ws values c) (cond z (onRunning text ws values c) (refused ws values 24))))
+      → Keeps ws values (slotIn c) (cond x (onClosed text ws values c) (cond y (onIdle text ws values c) (cond z (onRunning text ws values c) (refused ws values 24))))
   phase-keeps c h true y z = closed-keeps c h
   phase-keeps c h false true z = idle-keeps c h
   phase-keeps c h false false true = running-keeps c h

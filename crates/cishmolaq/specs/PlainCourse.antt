@@ -1,4 +1,4 @@
--- Demand 3 over what the entries answered and left: "Any list of begin, send, step, commit, abort that leaves nothing open".
+-- Demand 3 over what the entries answered and left: any list of send, step, commit and abort "that leaves nothing open".
 use Prim.Native.Nat.{ℕ, _≤_, _<_}
 use native.Mathlib.Omega.{arith}
 use mathlib.Core.Path.{_≡_, refl, sym, ap, subst, _∙_}

@@ -1,4 +1,4 @@
--- What each of the five calls promises, whatever is lent, and where the lent words represent a world of the machine.
+-- What each of the four calls promises, whatever is lent, and where the lent words represent a world of the machine.
 use Prim.Native.Nat.{ℕ, _≤_}
 use mathlib.Core.Path.{_≡_, sym, ap, subst, _∙_}
 use mathlib.Core.List.{List}

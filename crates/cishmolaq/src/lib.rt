@@ -12,7 +12,7 @@ ghost use Rattle.layout.specs.Layout.{tableWords};
 ghost use Rattle.model.specs.Read.{accepted, read};
 ghost use Rattle.model.specs.Image.{statementAnswer, statementPlace, statementPart};
 ghost use Rattle.model.specs.Tables.{refusalPrinted};
-ghost use Rattle.model.specs.Service.{begin, send, step, commit, abort};
+ghost use Rattle.model.specs.Service.{send, step, commit, abort};
 ghost use Rattle.model.specs.Machine.{to};
 ghost use Rattle.catalog.specs.View.{libraryOf};
 ghost use Rattle.reader.specs.Verdicts.{Checks};
@@ -214,15 +214,8 @@ pub fn start(text: &[u8], values: &[u32], state: &mut [u32]) -> Answer
     }
 }
 
-// Opens a slot for a transaction. 33 where it is open.
-pub fn begin(text: &[u8], state: &mut [u32], values: &[u32], slot: u32) -> Outcome
-    ensures { λ r. ⌜ Does (now (text .entry)) (now (state .entry)) (now (values .entry)) (begin slot) r (now (state .exit)) (now (values .entry)) ⌝ }
-{
-    machine_calls::begin(text, state, values, slot)
-}
-
 // Sends a message to a target: the method at a place of its class, with an argument. 40 with the lowest slot whose locks
-// clash; else the transaction has the send's locks until commit or abort, and the message is at its start.
+// clash; else a closed slot is opened, the transaction has the send's locks until commit or abort, and the message is at its start.
 pub fn send(
     text: &[u8],
     state: &mut [u32],

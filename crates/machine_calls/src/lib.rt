@@ -1,28 +1,16 @@
-// The calls of the machine (01, "The machine"): begin, commit and abort here, send and step in their modules. What a call answers and
-// leaves is `called` in crates/machine_words/specs/Calls.antt, whatever is lent.
+// The calls of the machine (01, "The machine"): commit and abort here, send and step in their modules. What a call answers and leaves
+// is `called` in crates/machine_words/specs/Calls.antt, whatever is lent.
 pub mod send;
 pub mod step;
 
 use machine_checks::Outcome;
 ghost use mathlib.Core.Path.{_≡_};
-ghost use lib.ListN.{set};
-ghost use Rattle.layout.specs.Layout.{phaseAt};
 ghost use Rattle.model.specs.Undo.{putBack};
-ghost use Rattle.model.specs.Service.{begin, commit, abort};
+ghost use Rattle.model.specs.Service.{commit, abort};
 ghost use Rattle.machine_words.specs.Row.{noteAt, freed};
 ghost use Rattle.machine_words.specs.Calls.{rowOf, withRow, called};
 ghost use Rattle.machine_checks.specs.Told.{Leaves};
 ghost use Rattle.machine_checks.specs.Lent.{Within};
-
-// Opens a closed slot.
-fn open_slot(state: &mut [u32], slot: u32)
-    requires { ⌜ Within (now state) slot ⌝ }
-    ensures { λ _. ⌜ now (state .exit) ≡ withRow (now (state .entry)) slot (set (rowOf (now (state .entry)) slot) phaseAt 1) ⌝ }
-{
-    let start = layout::TABLE_WORDS + slot as usize * layout::ROW_WORDS;
-    let end = start + layout::ROW_WORDS;
-    memory::put(&mut state[start..end], layout::PHASE_AT, 1);
-}
 
 // Clears what the slot's transaction wrote in its row.
 fn close_slot(state: &mut [u32], slot: u32)
@@ -45,21 +33,6 @@ fn roll_back(state: &mut [u32], values: &mut [u32], slot: u32)
     machine_locks::release::roll_back(&mut state[start..end], values);
 }
 
-// Opens a slot for a transaction.
-pub fn begin(text: &[u8], state: &mut [u32], values: &[u32], slot: u32) -> Outcome
-    ensures { λ r. ⌜ Leaves (called (now (text .entry)) (now (state .entry)) (now (values .entry)) (begin slot)) r (now (state .exit)) (now (values .entry)) ⌝ }
-{
-    let number = machine_checks::refusal(text, state, values, slot);
-    if number != 0 {
-        return Outcome::Refused(number);
-    }
-    if machine_checks::phase_of(state, slot) != 0 {
-        return Outcome::Refused(33);
-    }
-    open_slot(state, slot);
-    Outcome::Done
-}
-
 // Frees a slot and keeps the values.
 pub fn commit(text: &[u8], state: &mut [u32], values: &[u32], slot: u32) -> Outcome
     ensures { λ r. ⌜ Leaves (called (now (text .entry)) (now (state .entry)) (now (values .entry)) (commit slot)) r (now (state .exit)) (now (values .entry)) ⌝ }
@@ -67,6 +40,10 @@ pub fn commit(text: &[u8], state: &mut [u32], values: &[u32], slot: u32) -> Outc
     let refused = machine_checks::idle_refusal(text, state, values, slot);
     if refused != 0 {
         return Outcome::Refused(refused);
+    }
+    let phase = machine_checks::phase_of(state, slot);
+    if phase == 0 {
+        return Outcome::Refused(32);
     }
     close_slot(state, slot);
     Outcome::Done

@@ -23,7 +23,8 @@ fn outcome_of(number: u32) -> Outcome
     Outcome::Held(number - 40)
 }
 
-// Sends a message: the method at a place of the target's class, with an argument. Its locks are held until commit or abort.
+// Sends a message: the method at a place of the target's class, with an argument. A granted send opens its slot if that is closed;
+// its locks are held until commit or abort.
 pub fn send(
     text: &[u8],
     state: &mut [u32],

@@ -110,7 +110,7 @@ module _ (text ws values : List ℕ) (c : Call Request) (n : ℕ) (e : n ≡ fir
     unfolding called
     by-phase = let h = none-first text ws values (slotIn c) n e z in rw (h .0, lt-leb 8 (slotIn c) (h .1), q)
 
-    pub when-closed : f ≡ 0 → onClosed ws values c ≡ called text ws values c
+    pub when-closed : f ≡ 0 → onClosed text ws values c ≡ called text ws values c
     when-closed o = rw (eq-eqb f 0 o) at by-phase
 
     pub when-idle : f ≡ 1 → onIdle text ws values c ≡ called text ws values c
@@ -130,15 +130,14 @@ module _ (text ws values : List ℕ) (c : Call Request) (n : ℕ) (e : n ≡ fir
         go true t = i ∙ when-idle (eqb-true f 1 t)
         go false t = r ∙ when-running a (eqb-false f 1 t)
 
--- ---- commit and send, which need an open slot without a message
+-- ---- send and commit, which need a slot where no message runs
 
--- The refusals that every call tests first, then 32 and 34; 0 where none of them applies.
+-- The refusals that every call tests first, then 34; 0 where none of them applies.
 unfoldable pub idleRefusal : List ℕ → List ℕ → List ℕ → ℕ → ℕ
 unfolding firstRefusal rowOf
 idleRefusal text ws values s =
     let first = firstRefusal text ws values s in
-    let phase = phaseOf (rowOf ws s) in
-    cond (not (eqb first 0)) first (cond (eqb phase 0) 32 (cond (eqb phase 1) 0 34))
+    cond (not (eqb first 0)) first (cond (eqb (phaseOf (rowOf ws s)) 2) 34 0)
 
 module _ (text ws values : List ℕ) (s m : ℕ) (e : m ≡ firstRefusal text ws values s) where
   pub idle-first : (m ≡ 0 → ⊥) → m ≡ idleRefusal text ws values s
@@ -146,59 +145,66 @@ module _ (text ws values : List ℕ) (s m : ℕ) (e : m ≡ firstRefusal text ws
   idle-first z = rw (← e, ne-eqb m 0 z)
 
   module _ (z : m ≡ 0) (f : ℕ) (q : f ≡ phaseOf (rowOf ws s)) where
-    pub idle-closed : f ≡ 0 → 32 ≡ idleRefusal text ws values s
+    pub idle-running : f ≡ 2 → 34 ≡ idleRefusal text ws values s
     unfolding idleRefusal
-    idle-closed o = rw (← e, z, ← q, o)
+    idle-running o = rw (← e, z, ← q, o)
 
-    pub idle-running : (f ≡ 0 → ⊥) → (f ≡ 1 → ⊥) → 34 ≡ idleRefusal text ws values s
+    pub idle-none : (f ≡ 2 → ⊥) → 0 ≡ idleRefusal text ws values s
     unfolding idleRefusal
-    idle-running a b = rw (← e, z, ← q, ne-eqb f 0 a, ne-eqb f 1 b)
-
-    pub idle-none : f ≡ 1 → 0 ≡ idleRefusal text ws values s
-    unfolding idleRefusal
-    idle-none o = rw (← e, z, ← q, o)
+    idle-none a = rw (← e, z, ← q, ne-eqb f 2 a)
 
 module _ (text ws values : List ℕ) (c : Call Request) (n : ℕ) (e : n ≡ idleRefusal text ws values (slotIn c))
-    (closed : onClosed ws values c ≡ refused ws values 32) (running : onRunning text ws values c ≡ refused ws values 34) where
+    (running : onRunning text ws values c ≡ refused ws values 34) where
   abbrev phase : ℕ
   phase = phaseOf (rowOf ws (slotIn c))
 
-  by-tests : (m : ℕ) → firstRefusal text ws values (slotIn c) ≡ m → (a b : Bool) → eqb phase 0 ≡ a → eqb phase 1 ≡ b
-      → (n ≡ cond (not (eqb m 0)) m (cond a 32 (cond b 0 34)))
+  by-tests : (m : ℕ) → firstRefusal text ws values (slotIn c) ≡ m → (a : Bool) → eqb phase 2 ≡ a → n ≡ cond (not (eqb m 0)) m (cond a 34 0)
   unfolding idleRefusal
-  by-tests m p a b q r = e ∙ (λ i. cond (not (eqb (p i) 0)) (p i) (cond (q i) 32 (cond (r i) 0 34)))
+  by-tests m p a q = e ∙ (λ i. cond (not (eqb (p i) 0)) (p i) (cond (q i) 34 0))
 
   pub idle-refused : (n ≡ 0 → ⊥) → refused ws values n ≡ called text ws values c
-  idle-refused z = go (firstRefusal text ws values (slotIn c)) refl (eqb phase 0) refl (eqb phase 1) refl
+  idle-refused z = go (firstRefusal text ws values (slotIn c)) refl (eqb phase 2) refl
     where
-      go : (m : ℕ) → firstRefusal text ws values (slotIn c) ≡ m → (a : Bool) → eqb phase 0 ≡ a → (b : Bool) → eqb phase 1 ≡ b → refused ws values n ≡ called text ws values c
-      go (suc m) p a q b r =
-          let other : n ≡ suc m = by-tests (suc m) p a b q r ∙ rw (eqb·suc-zero m) in
+      go : (m : ℕ) → firstRefusal text ws values (slotIn c) ≡ m → (a : Bool) → eqb phase 2 ≡ a → refused ws values n ≡ called text ws values c
+      go (suc m) p a q =
+          let other : n ≡ suc m = by-tests (suc m) p a q ∙ rw (eqb·suc-zero m) in
           refused-first text ws values c n (other ∙ sym p) z
-      go zero p true q b r =
-          ap (refused ws values) (by-tests 0 p true b q r) ∙ sym closed ∙ when-closed text ws values c 0 (sym p) refl phase refl (eqb-true phase 0 q)
-      go zero p false q false r =
-          ap (refused ws values) (by-tests 0 p false false q r) ∙ sym running ∙ when-running text ws values c 0 (sym p) refl phase refl (eqb-false phase 0 q) (eqb-false phase 1 r)
-      go zero p false q true r = absurd (z (by-tests 0 p false true q r))
+      go zero p true q =
+          let two = eqb-true phase 2 q in
+          ap (refused ws values) (by-tests 0 p true q) ∙ sym running ∙ when-running text ws values c 0 (sym p) refl phase refl (λ o. omega arith) (λ o. omega arith)
+      go zero p false q = absurd (z (by-tests 0 p false q))
 
   module _ (z : n ≡ 0) where
-    both : (firstRefusal text ws values (slotIn c) ≡ 0) × (phase ≡ 1)
-    both = go (firstRefusal text ws values (slotIn c)) refl (eqb phase 0) refl (eqb phase 1) refl
+    both : (firstRefusal text ws values (slotIn c) ≡ 0) × (phase ≡ 2 → ⊥)
+    both = go (firstRefusal text ws values (slotIn c)) refl (eqb phase 2) refl
       where
-        go : (m : ℕ) → firstRefusal text ws values (slotIn c) ≡ m → (a : Bool) → eqb phase 0 ≡ a → (b : Bool) → eqb phase 1 ≡ b
-            → (firstRefusal text ws values (slotIn c) ≡ 0) × (phase ≡ 1)
-        go (suc m) p a q b r =
-            let other : n ≡ suc m = by-tests (suc m) p a b q r ∙ rw (eqb·suc-zero m) in
+        go : (m : ℕ) → firstRefusal text ws values (slotIn c) ≡ m → (a : Bool) → eqb phase 2 ≡ a
+            → (firstRefusal text ws values (slotIn c) ≡ 0) × (phase ≡ 2 → ⊥)
+        go (suc m) p a q =
+            let other : n ≡ suc m = by-tests (suc m) p a q ∙ rw (eqb·suc-zero m) in
             absurd (omega arith)
-        go zero p true q b r = let other = by-tests 0 p true b q r in absurd (omega arith)
-        go zero p false q false r = let other = by-tests 0 p false false q r in absurd (omega arith)
-        go zero p false q true r = (p, eqb-true phase 1 r)
+        go zero p true q = let other = by-tests 0 p true q in absurd (omega arith)
+        go zero p false q = (p, eqb-false phase 2 q)
 
     pub idle-within : Within ws (slotIn c)
     idle-within = within text ws values (slotIn c) 0 (sym (both .0)) refl
 
-    pub idle-on : onIdle text ws values c ≡ called text ws values c
-    idle-on = when-idle text ws values c 0 (sym (both .0)) refl phase refl (both .1)
+    -- Commit: by whether the slot is closed.
+    pub idle-closed : (f : ℕ) → f ≡ phase → f ≡ 0 → onClosed text ws values c ≡ called text ws values c
+    idle-closed f q o = when-closed text ws values c 0 (sym (both .0)) refl f q o
+
+    pub idle-open : (f : ℕ) → f ≡ phase → (f ≡ 0 → ⊥) → onIdle text ws values c ≡ called text ws values c
+    idle-open f q a =
+        let low = none-first text ws values (slotIn c) 0 (sym (both .0)) refl .2 in
+        when-idle text ws values c 0 (sym (both .0)) refl f q (omega (arith, both .1))
+
+    -- Send: alike on a closed and on an open slot.
+    pub idle-either : onClosed text ws values c ≡ onIdle text ws values c → onIdle text ws values c ≡ called text ws values c
+    idle-either same = go (eqb phase 0) refl
+      where
+        go : (b : Bool) → eqb phase 0 ≡ b → onIdle text ws values c ≡ called text ws values c
+        go true t = sym same ∙ idle-closed phase refl (eqb-true phase 0 t)
+        go false t = idle-open phase refl (eqb-false phase 0 t)
 
 -- The slot's phase is the first word of its row.
 pub phase-is : (ws : List ℕ) (s : ℕ) → getD ws (tableWords + s * rowWords) 0 ≡ phaseOf (rowOf ws s)

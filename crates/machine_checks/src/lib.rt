@@ -58,7 +58,7 @@ pub fn refusal(text: &[u8], state: &[u32], values: &[u32], slot: u32) -> u32
     0
 }
 
-// What commit and send test first: the slot is open, and no message runs. The refusals of every call, then 32, 34; else 0.
+// What send and commit test first: no message runs in the slot. The refusals of every call, then 34; else 0.
 pub fn idle_refusal(text: &[u8], state: &[u32], values: &[u32], slot: u32) -> u32
     ensures { λ r. ⌜ r ≡ idleRefusal (now (text .entry)) (now (state .entry)) (now (values .entry)) slot ⌝ }
 {
@@ -66,11 +66,7 @@ pub fn idle_refusal(text: &[u8], state: &[u32], values: &[u32], slot: u32) -> u3
     if number != 0 {
         return number;
     }
-    let phase = phase_of(state, slot);
-    if phase == 0 {
-        return 32;
-    }
-    if phase != 1 {
+    if phase_of(state, slot) == 2 {
         return 34;
     }
     0

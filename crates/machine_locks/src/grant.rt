@@ -26,8 +26,8 @@ ghost use Rattle.machine_locks.specs.Outcomes.{outcomeOf};
 ghost use Rattle.machine_locks.specs.OneObject.{ToObject};
 ghost use Rattle.machine_locks.specs.Holders.{startsAtOnce};
 
-// Grants a send: takes its locks, puts its message at its start and answers 0. Answers 40 plus the lowest slot in its way, or 24
-// where its message starts nowhere, and then alters nothing.
+// Grants a send: takes its locks, puts its message at its start, which opens a closed slot, and answers 0. Answers 40 plus the
+// lowest slot in its way, or 24 where its message starts nowhere, and then alters nothing.
 pub(crate) fn grant(text: &[u8], state: &mut [u32], slot: u32, wanted: Wanted) -> u32
     requires { ⌜ Within (now state) slot × (wanted .place < 32) ⌝ }
     ensures { λ r. ⌜ ((values : List ℕ) → Leaves (grantedOr (now (text .entry)) (now (state .entry)) values slot (asked wanted)

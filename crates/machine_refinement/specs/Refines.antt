@@ -12,16 +12,14 @@ use Rattle.model.specs.Vector.{Program}
 use Rattle.model.specs.Message.{Run}
 use Rattle.model.specs.Service.{Slot, closed, opened, Transaction, World, fresh, withFields, onOpen, onSlot, slotOf, inRange}
 use Rattle.model.specs.Service as Told
-use Rattle.model.specs.Machine.{service, Call, begin, send, step, commit, abort, call}
-use Rattle.machine_words.specs.Row.{blank}
+use Rattle.model.specs.Machine.{service, Call, send, step, commit, abort, call}
 use Rattle.machine_words.specs.Calls.{refused, tablesOf, rowOf, phaseOf, slotIn, byPhase, onClosed, onIdle, onRunning, called}
 use Rattle.machine_refinement.specs.Rep.{OpenRep, NowRep, SlotRep, Rep, Fresh}
 use Rattle.machine_refinement.specs.Locks.{blank-word}
-use Rattle.machine_refinement.specs.Transitions.{Follows, begins, commits, aborts, steps}
+use Rattle.machine_refinement.specs.Transitions.{Follows, commits, aborts, steps}
 use Rattle.machine_refinement.specs.Sends.{sends-by}
 
 slot-is : (p : Program) (c : Call) → slotIn c ≡ slotOf (service p) c
-slot-is p (begin s) = refl
 slot-is p (send s q) = refl
 slot-is p (step s) = refl
 slot-is p (commit s) = refl
@@ -32,24 +30,21 @@ module _ (text ws values : List ℕ) (p : Program) (w₀ : World (service p)) (r
   w = withFields (service p) w₀ values
 
   -- By the phase of the slot's row.
-  closed-follows : (c : Call) → slotIn c < 8 → rowOf ws (slotIn c) ≡ blank → Follows text p (onClosed ws values c) (Told.onClosed (service p) w c)
-  closed-follows (begin s) h e = begins text ws values p w₀ rep s h e
-  closed-follows (send s q) h e = (refl, rep)
-  closed-follows (step s) h e = (refl, rep)
-  closed-follows (commit s) h e = (refl, rep)
-  closed-follows (abort s) h e = (refl, rep)
+  closed-follows : (c : Call) → slotIn c < 8 → Follows text p (onClosed text ws values c) (Told.onClosed (service p) w c)
+  closed-follows (send s q) h = sends-by text ws values p w₀ rep s h q
+  closed-follows (step s) h = (refl, rep)
+  closed-follows (commit s) h = (refl, rep)
+  closed-follows (abort s) h = (refl, rep)
 
   idle-follows : (c : Call) → slotIn c < 8 → (t : Transaction (service p)) → OpenRep text (tablesOf ws) p (rowOf ws (slotIn c)) t
       → Follows text p (onIdle text ws values c) (Told.onIdle (service p) w t c)
-  idle-follows (begin s) h t o = (refl, rep)
-  idle-follows (send s q) h t o = sends-by text ws values p w₀ rep s h t o q
+  idle-follows (send s q) h t o = sends-by text ws values p w₀ rep s h q
   idle-follows (step s) h t o = (refl, rep)
   idle-follows (commit s) h t o = commits text ws values p w₀ rep s h t o
   idle-follows (abort s) h t o = aborts text ws values p w₀ rep s h t o
 
   running-follows : (c : Call) → slotIn c < 8 → (t : Transaction (service p)) → OpenRep text (tablesOf ws) p (rowOf ws (slotIn c)) t
       → (r : Run) → NowRep text (tablesOf ws) p (rowOf ws (slotIn c)) (some r) → Follows text p (onRunning text ws values c) (Told.onRunning (service p) w t r c)
-  running-follows (begin s) h t o r n = (refl, rep)
   running-follows (send s q) h t o r n = (refl, rep)
   running-follows (step s) h t o r n = steps text ws values p w₀ rep s h t o r n
   running-follows (commit s) h t o r n = (refl, rep)
@@ -67,7 +62,7 @@ module _ (text ws values : List ℕ) (p : Program) (w₀ : World (service p)) (r
       → Follows text p (byPhase text ws values c (phaseOf (rowOf ws (slotIn c)))) (onSlot (service p) w c z)
   slot-follows c h closed e =
       subst (λ (i : ℕ). Follows text p (byPhase text ws values c i) (onSlot (service p) w c closed))
-      (sym (ap phaseOf e ∙ blank-word 0)) (closed-follows c h e)
+      (sym (ap phaseOf e ∙ blank-word 0)) (closed-follows c h)
   slot-follows c h (opened t) o = open-follows c h t o (t .running) (o .now)
 
   call-follows : (c : Call) → Follows text p (called text ws values c) (call p w c)

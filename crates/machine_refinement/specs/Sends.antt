@@ -18,13 +18,13 @@ use Rattle.model.specs.Lock.{Lock, locksFor, lockClash, locksClash}
 use Rattle.laws.specs.Lists.{none-any}
 use Rattle.laws.specs.Lookup.{place-known, name-known}
 use Rattle.theory.specs.NamedRuns.{domain-methods}
-use Rattle.model.specs.Service.{Slot, closed, opened, Transaction, World, withFields, started, heldBy, granted, sent}
+use Rattle.model.specs.Service.{Slot, closed, opened, Transaction, World, withFields, standing, starting, heldBy, granted, sent}
 use Rattle.model.specs.Service as Told
 use Rattle.model.specs.Machine.{service, methodAt, Request, to, find}
 use Rattle.catalog.specs.View.{objectWord, classCount, objectCount, memberCount}
 use Rattle.machine_words.specs.Request.{Wanted, lacks, lacking, rowMeets, locked, First, on, past, nowhere, firstOf, entered}
 use Rattle.machine_words.specs.Calls.{After, refused, tablesOf, rowOf, phaseOf, wanted, inTheWay, startedAt, startedOr, grantedOr, sentTo, sentBy}
-use Rattle.machine_refinement.specs.Rep.{Fits, OpenRep, SlotRep, Rep}
+use Rattle.machine_refinement.specs.Rep.{Fits, SlotRep, Rep}
 use Rattle.machine_refinement.specs.Tables.{class-total, object-total, method-total, class-is}
 use Rattle.machine_refinement.specs.Runs.{note-same}
 use Rattle.machine_refinement.specs.Locks.{blank-word, holds-alike}
@@ -32,7 +32,7 @@ use Rattle.machine_refinement.specs.Clashes.{below-count}
 use Rattle.machine_refinement.specs.RowTest.{Aims, one, each, whole, methodOf, place-there, domain-there, row-clash}
 use Rattle.machine_refinement.specs.Taking.{took-locks}
 use Rattle.machine_refinement.specs.Starts.{messageFor, There, starts}
-use Rattle.machine_refinement.specs.State.{open-phase, moved}
+use Rattle.machine_refinement.specs.State.{open-phase, StandingRep, slot-stands, moved}
 use Rattle.machine_refinement.specs.Transitions.{Follows, row-size}
 use Rattle.machine_refinement.specs.Freeing.{clean-alike}
 
@@ -82,7 +82,7 @@ module _ (text tables : List ℕ) (p : Program) (fits : Fits text tables p) (c k
       none-any (lacks text tables (wanted tables 2 c c k a)) (upto (λ d. d) (classCount tables)) (λ d i. class-has d (below-count (classCount tables) i))
 
 module _ (text ws values : List ℕ) (p : Program) (w₀ : World (service p)) (rep : Rep text ws values p (withFields (service p) w₀ values))
-    (s : ℕ) (h : s < 8) (t : Transaction (service p)) (open′ : OpenRep text (tablesOf ws) p (rowOf ws s) t) where
+    (s : ℕ) (h : s < 8) where
   abbrev w : World (service p)
   w = withFields (service p) w₀ values
 
@@ -94,6 +94,13 @@ module _ (text ws values : List ℕ) (p : Program) (w₀ : World (service p)) (r
 
   size : length row ≡ rowWords
   size = row-size text ws values p w₀ rep s h
+
+  -- The transaction that the send belongs to.
+  abbrev t : Transaction (service p)
+  t = standing (service p) (w₀ .slots s)
+
+  before : StandingRep p row t
+  before = slot-stands text tables p row (w₀ .slots s) (rep .slots s h)
 
   -- ---- a send whose target and method exist
 
@@ -123,40 +130,40 @@ module _ (text ws values : List ℕ) (p : Program) (w₀ : World (service p)) (r
             ∙ row-clash text tables p (rep .fits) c k a l has r (y .locks) (o .locks) kind n x aims
 
     -- The row with its locks and the message's start.
-    grants : Follows text p (grantedOr text ws values s q none) (granted (service p) w s t m none)
+    grants : Follows text p (grantedOr text ws values s q none) (granted (service p) w s m none)
     grants =
-        let took = took-locks text tables p (rep .fits) c k a l has row size (t .locks) (open′ .locks) kind n x aims in
+        let took = took-locks text tables p (rep .fits) c k a l has row size (t .locks) (before .locks) kind n x aims in
         let row₁ = locked text tables q row in
         let at-start = starts text tables p (rep .fits) c k a l has kind n x aims row₁ (took .long) in
         let start = at-start .1 in
         let f = firstOf text tables q in
         let row₂ = entered q f row₁ in
         let locks = locksFor p x (m .method) ++ t .locks in
-        subst (λ (y : After). Follows text p y (granted (service p) w s t m none)) (sym (started-there text ws values s q f (at-start .0))) (
+        subst (λ (y : After). Follows text p y (granted (service p) w s m none)) (sym (started-there text ws values s q f (at-start .0))) (
           refl,
-          moved text ws values p w₀ rep s h row₂ values (start .long) refl (opened (started (service p) t m))
+          moved text ws values p w₀ rep s h row₂ values (start .long) refl (opened (starting (service p) t m))
               (record {
                 undo = λ j.
                     note-same row₁ row₂ (λ i g e. start .tail i (omega arith) e) j
-                    ∙ note-same row row₁ (λ i g e. took .kept i (omega arith) (λ y z. omega arith)) j ∙ open′ .undo j;
-                clean = clean-alike row₁ row₂ (start .head) (start .tail) (λ d. start .depth) (took .clean (open′ .clean));
+                    ∙ note-same row row₁ (λ i g e. took .kept i (omega arith) (λ y z. omega arith)) j ∙ before .undo j;
+                clean = clean-alike row₁ row₂ (start .head) (start .tail) (λ d. start .depth) (took .clean (before .clean));
                 locks = holds-alike text tables p (rep .fits) row₁ row₂ locks (λ i g e. start .tail i (omega arith) (omega arith)) (took .holds);
                 now = (start .phase, start .run, start .runs, start .names);
               }),
         )
 
-    grants-or : (u : Option ℕ) → Follows text p (grantedOr text ws values s q u) (granted (service p) w s t m u)
+    grants-or : (u : Option ℕ) → Follows text p (grantedOr text ws values s q u) (granted (service p) w s m u)
     grants-or none = grants
     grants-or (some u) = (refl, rep)
 
-    sends : Follows text p (grantedOr text ws values s q (least (inTheWay text ws s q) 8)) (sent (service p) w s t (some m))
-    sends = subst (λ (u : Option ℕ). Follows text p (grantedOr text ws values s q u) (sent (service p) w s t (some m))) (sym way-same)
+    sends : Follows text p (grantedOr text ws values s q (least (inTheWay text ws s q) 8)) (sent (service p) w s (some m))
+    sends = subst (λ (u : Option ℕ). Follows text p (grantedOr text ws values s q u) (sent (service p) w s (some m))) (sym way-same)
         (grants-or (least (Told.inTheWay (service p) w s m) 8))
 
   -- ---- a send to a target that exists
 
   sends-to : (c k a : ℕ) → c < classCount tables → (kind n : ℕ) (x : Target) → Aims tables c kind n x
-      → Follows text p (sentTo text ws values s kind n c k a) (sent (service p) w s t (methodAt p x c k a))
+      → Follows text p (sentTo text ws values s kind n c k a) (sent (service p) w s (methodAt p x c k a))
   unfolding sentTo
   sends-to c k a l kind n x aims = go (leb (memberCount tables c 1) k) refl
     where
@@ -166,7 +173,7 @@ module _ (text ws values : List ℕ) (p : Program) (w₀ : World (service p)) (r
       known : leb (classCount tables) c ≡ false
       known = lt-leb (classCount tables) c l
 
-      go : (b : Bool) → leb (memberCount tables c 1) k ≡ b → Follows text p (sentTo text ws values s kind n c k a) (sent (service p) w s t (methodAt p x c k a))
+      go : (b : Bool) → leb (memberCount tables c 1) k ≡ b → Follows text p (sentTo text ws values s kind n c k a) (sent (service p) w s (methodAt p x c k a))
       go true e =
           let f : ltb k (length (methodNames (p .library) c)) ≡ false = le-ltb k (length (methodNames (p .library) c))
           (omega (arith, leb-true (memberCount tables c 1) k e, names)) in
@@ -177,33 +184,33 @@ module _ (text ws values : List ℕ) (p : Program) (w₀ : World (service p)) (r
           rw (known, e, none-lacks text tables p (rep .fits) c k a l has kind n x aims, f) (sends c k a l has kind n x aims)
 
   -- A send, whatever it names.
-  pub sends-by : (q : Request) → Follows text p (sentBy text ws values s q) (sent (service p) w s t (find p q))
+  pub sends-by : (q : Request) → Follows text p (sentBy text ws values s q) (sent (service p) w s (find p q))
   sends-by (to (object o) k a) =
       subst (λ (i : ℕ). Follows text p (sentBy text ws values s (to (object o) k a))
-      (sent (service p) w s t (cond (ltb o i) (methodAt p (object o) (Model.classOf p o) k a) none)))
+      (sent (service p) w s (cond (ltb o i) (methodAt p (object o) (Model.classOf p o) k a) none)))
       (sym (object-total text tables p (rep .fits))) (go (ltb o (objectCount tables)) refl)
     where
       go : (b : Bool) → ltb o (objectCount tables) ≡ b
           → Follows text p (cond b (sentTo text ws values s 0 o (objectWord tables o objectClassAt) k a) (refused ws values 36))
-          (sent (service p) w s t (cond b (methodAt p (object o) (Model.classOf p o) k a) none))
+          (sent (service p) w s (cond b (methodAt p (object o) (Model.classOf p o) k a) none))
       go true e =
           let l = ltb-true o (objectCount tables) e in
-          subst (λ (c : ℕ). Follows text p (sentTo text ws values s 0 o (objectWord tables o objectClassAt) k a) (sent (service p) w s t (methodAt p (object o) c k a)))
+          subst (λ (c : ℕ). Follows text p (sentTo text ws values s 0 o (objectWord tables o objectClassAt) k a) (sent (service p) w s (methodAt p (object o) c k a)))
           (sym (class-is text tables p (rep .fits) o l)) (sends-to (objectWord tables o objectClassAt) k a (rep .fits .known o l) 0 o (object o) (one o l refl))
       go false e = (refl, rep)
   sends-by (to (class c) k a) =
-      subst (λ (i : ℕ). Follows text p (sentBy text ws values s (to (class c) k a)) (sent (service p) w s t (cond (ltb c i) (methodAt p (class c) c k a) none)))
+      subst (λ (i : ℕ). Follows text p (sentBy text ws values s (to (class c) k a)) (sent (service p) w s (cond (ltb c i) (methodAt p (class c) c k a) none)))
       (sym (class-total text tables p (rep .fits))) (go (ltb c (classCount tables)) refl)
     where
       go : (b : Bool) → ltb c (classCount tables) ≡ b
-          → Follows text p (cond b (sentTo text ws values s 1 c c k a) (refused ws values 36)) (sent (service p) w s t (cond b (methodAt p (class c) c k a) none))
+          → Follows text p (cond b (sentTo text ws values s 1 c c k a) (refused ws values 36)) (sent (service p) w s (cond b (methodAt p (class c) c k a) none))
       go true e = sends-to c k a (ltb-true c (classCount tables) e) 1 c (class c) each
       go false e = (refl, rep)
   sends-by (to (domain c) k a) =
-      subst (λ (i : ℕ). Follows text p (sentBy text ws values s (to (domain c) k a)) (sent (service p) w s t (cond (ltb c i) (methodAt p (domain c) c k a) none)))
+      subst (λ (i : ℕ). Follows text p (sentBy text ws values s (to (domain c) k a)) (sent (service p) w s (cond (ltb c i) (methodAt p (domain c) c k a) none)))
       (sym (class-total text tables p (rep .fits))) (go (ltb c (classCount tables)) refl)
     where
       go : (b : Bool) → ltb c (classCount tables) ≡ b
-          → Follows text p (cond b (sentTo text ws values s 2 c c k a) (refused ws values 36)) (sent (service p) w s t (cond b (methodAt p (domain c) c k a) none))
+          → Follows text p (cond b (sentTo text ws values s 2 c c k a) (refused ws values 36)) (sent (service p) w s (cond b (methodAt p (domain c) c k a) none))
       go true e = sends-to c k a (ltb-true c (classCount tables) e) 2 c (domain c) whole
       go false e = (refl, rep)

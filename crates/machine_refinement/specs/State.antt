@@ -1,23 +1,27 @@
--- What a slot's phase represents in the world's slot, and what the words represent where a call writes one row.
-use Prim.Native.Nat.{ℕ, _<_}
+-- What a slot's phase represents in the world's slot, what its row represents of the transaction that a send to it belongs to, and
+-- what the words represent where a call writes one row.
+use Prim.Native.Nat.{ℕ, _+_, _/_, _%_, _<_}
 use native.Mathlib.Omega.{arith}
 use mathlib.Core.Path.{_≡_, refl, sym, ap, subst, _∙_}
 use mathlib.Core.Logic.{_≢_}
+use mathlib.Core.Bool.{Bool, true, false, cond}
 use mathlib.Core.Option.{Option, none, some}
 use mathlib.Core.List.{List}
-use lib.ListN.{length}
-use Rattle.layout.specs.Layout.{rowWords}
+use lib.ListN.{length, getD}
+use lib.Dec.{ltb}
+use Rattle.layout.specs.Layout.{valuesMost, marksAt, notesAt, rowWords}
 use Rattle.model.specs.Base.{put}
 use Rattle.model.specs.Vector.{Program}
 use Rattle.model.specs.Message.{Run}
-use Rattle.model.specs.Service.{Slot, closed, opened, Transaction, World, withFields, withSlot}
+use Rattle.model.specs.Service.{Slot, closed, opened, Transaction, World, withFields, withSlot, newTransaction, standing}
 use Rattle.model.specs.Machine.{service}
 use Rattle.laws.specs.Basics.{at-or, put-same, put-other}
-use Rattle.machine_words.specs.Row.{blank}
+use Rattle.laws.specs.Bits.{bit, bit-zero}
+use Rattle.machine_words.specs.Row.{noteIf, noteAt, blank}
 use Rattle.machine_words.specs.Calls.{tablesOf, rowOf, phaseOf, withRow}
 use Rattle.machine_words.specs.Rows.{with-same, with-other, with-tables, with-fit, fit-is}
-use Rattle.machine_refinement.specs.Rep.{Fits, NowRep, OpenRep, SlotRep, Rep}
-use Rattle.machine_refinement.specs.Locks.{blank-word}
+use Rattle.machine_refinement.specs.Rep.{Fits, NowRep, Clean, Holds, OpenRep, SlotRep, Rep}
+use Rattle.machine_refinement.specs.Locks.{blank-word, blank-holds}
 
 -- ---- phases
 
@@ -42,6 +46,45 @@ module _ (text ws values : List ℕ) (p : Program) (w : World (service p)) (rep 
   closed-phase e =
       let blanked : rowOf ws t ≡ blank = subst (SlotRep text (tablesOf ws) p (rowOf ws t)) e (rep .slots t h) in
       ap phaseOf blanked ∙ blank-word 0
+
+-- ---- the transaction that a send belongs to
+
+-- What a row represents of a transaction, whatever runs: its notes and its locks.
+pub record StandingRep (p : Program) (row : List ℕ) (t : Transaction (service p)) : Type 0 where
+  pub undo : (k : ℕ) → noteAt row k ≡ t .undo k
+  pub clean : Clean row
+  pub locks : Holds p row (t .locks)
+
+-- A blank row has no notes.
+blank-notes : (k : ℕ) → noteAt blank k ≡ none
+unfolding noteAt
+blank-notes k =
+    ap (λ (b : Bool). cond (ltb k valuesMost) (noteIf b (getD blank (notesAt + k) 0)) none)
+    (ap (λ (w : ℕ). bit w (k % 32)) (blank-word (marksAt + k / 32)) ∙ bit-zero (k % 32)) ∙ go (ltb k valuesMost)
+  where
+    go : (b : Bool) → _≡_ {A = Option ℕ} (cond b none none) none
+    go true = refl
+    go false = refl
+
+-- A closed slot's row represents a new transaction.
+blank-stands : (p : Program) → StandingRep p blank (newTransaction (service p))
+blank-stands p =
+    record {
+      undo = blank-notes;
+      clean = record {
+        notes = λ k l m. blank-word (notesAt + k);
+        marks = λ z i g l. blank-word i;
+        spare = λ i g l. blank-word i;
+        locks = λ i g l z. blank-word i;
+        calls = λ z. (omega (arith, blank-word 1), λ i g l. blank-word i);
+      };
+      locks = blank-holds p;
+    }
+
+pub slot-stands : (text tables : List ℕ) (p : Program) (row : List ℕ) (z : Slot (service p)) → SlotRep text tables p row z
+    → StandingRep p row (standing (service p) z)
+slot-stands text tables p row closed e = subst (λ (r : List ℕ). StandingRep p r (newTransaction (service p))) (sym e) (blank-stands p)
+slot-stands text tables p row (opened t) o = record { undo = o .undo; clean = o .clean; locks = o .locks }
 
 -- ---- a slot altered
 

@@ -1,33 +1,30 @@
--- What each call does to an open slot, over the words and in the model: begin, step, commit and abort.
-use Prim.Native.Nat.{ℕ, _+_, _/_, _%_, _<_}
+-- What each call does to an open slot, over the words and in the model: step, commit and abort.
+use Prim.Native.Nat.{ℕ, _<_}
 use native.Mathlib.Omega.{arith}
 use mathlib.Core.Path.{_≡_, refl, sym, ap, subst, _∙_, fun-ext}
-use mathlib.Core.Bool.{Bool, true, false, cond}
 use mathlib.Core.Option.{Option, none, some}
-use mathlib.Core.List.{List, []}
+use mathlib.Core.List.{List}
 use lib.ListN.{length, getD, set, length-set}
-use lib.Dec.{ltb}
-use Rattle.layout.specs.Layout.{valuesMost, phaseAt, marksAt, notesAt, rowWords}
+use Rattle.layout.specs.Layout.{phaseAt, rowWords}
 use Rattle.model.specs.Vector.{Program}
 use Rattle.model.specs.Message.{Effect, idle, store, Run, Outcome, goes, ends, stops, turn}
 use Rattle.model.specs.Message as Model
 use Rattle.model.specs.Undo.{Undo, noted, putBack}
-use Rattle.model.specs.Service.{Answer, done, stopped, closed, opened, Transaction, World, withFields, withSlot, newTransaction, advanced, undone, after, stepped}
+use Rattle.model.specs.Service.{Answer, done, stopped, closed, opened, Transaction, World, withFields, withSlot, advanced, undone, after, stepped}
 use Rattle.model.specs.Machine.{service}
-use Rattle.laws.specs.Bits.{bit, bit-zero}
 use Rattle.laws.specs.PutBack.{back-length}
 use Rattle.theory.specs.NamedRuns.{NamedRun, turn-named}
-use Rattle.machine_words.specs.Row.{Left, noteIf, noteAt, blank, freed, carried}
+use Rattle.machine_words.specs.Row.{Left, noteAt, freed, carried}
 use Rattle.machine_words.specs.Turn.{decided}
 use Rattle.machine_words.specs.Calls.{After, tablesOf, rowOf, phaseOf, withRow, laid, undoneAt}
-use Rattle.machine_refinement.specs.Rep.{runOf, NowRep, Holds, OpenRep, Rep}
+use Rattle.machine_refinement.specs.Rep.{runOf, NowRep, OpenRep, Rep}
 use Rattle.machine_refinement.specs.Tables.{resolving}
 use Rattle.machine_refinement.specs.Runs.{note-same}
 use Rattle.machine_refinement.specs.Stores.{else-word, new-word}
 use Rattle.machine_refinement.specs.Freeing.{clean-alike, freed-long, freed-blank}
 use Rattle.machine_refinement.specs.Going.{Matches}
 use Rattle.machine_refinement.specs.Step.{step-matches}
-use Rattle.machine_refinement.specs.Locks.{blank-word, blank-holds, holds-alike}
+use Rattle.machine_refinement.specs.Locks.{holds-alike}
 use Rattle.machine_words.specs.Rows.{row-length, Fit, fit-is}
 use Rattle.machine_refinement.specs.State.{moved}
 
@@ -35,22 +32,9 @@ use Rattle.machine_refinement.specs.State.{moved}
 abbrev pub Follows : List ℕ → (p : Program) → After → Answer × World (service p) → Type 0
 Follows text p x y = (x .answered ≡ y .0) × Rep text (x .words) (x .values) p (y .1)
 
--- ---- notes
-
 act-length : (e : Effect) (values : List ℕ) → length (Model.act e values) ≡ length values
 act-length idle values = refl
 act-length (store k v) values = length-set values k v
-
--- A row of zeros has no notes.
-zero-notes : (row : List ℕ) → ((i : ℕ) → getD row i 0 ≡ 0) → (k : ℕ) → noteAt row k ≡ none
-unfolding noteAt
-zero-notes row zeros k =
-    ap (λ (b : Bool). cond (ltb k valuesMost) (noteIf b (getD row (notesAt + k) 0)) none)
-    (ap (λ (w : ℕ). bit w (k % 32)) (zeros (marksAt + k / 32)) ∙ bit-zero (k % 32)) ∙ go (ltb k valuesMost)
-  where
-    go : (b : Bool) → _≡_ {A = Option ℕ} (cond b none none) none
-    go true = refl
-    go false = refl
 
 module _ (text ws values : List ℕ) (p : Program) (w₀ : World (service p)) (rep : Rep text ws values p (withFields (service p) w₀ values))
     (s : ℕ) (h : s < 8) where
@@ -69,31 +53,6 @@ module _ (text ws values : List ℕ) (p : Program) (w₀ : World (service p)) (r
   -- A row that differs in its phase alone.
   phased : (v i : ℕ) → (i ≡ 0 → ⊥) → getD (set row phaseAt v) i 0 ≡ getD row i 0
   phased v i ne = else-word row phaseAt v i ne
-
-  -- "begin opens it"
-  pub begins : row ≡ blank
-      → Follows text p (record { answered = done; words = withRow ws s (set row phaseAt 1); values = values })
-      (done, withSlot (service p) w s (opened (newTransaction (service p))))
-  begins e = (
-    refl,
-    moved text ws values p w₀ rep s h (set row phaseAt 1) values (length-set row phaseAt 1 ∙ row-size) refl (opened (newTransaction (service p)))
-        (record {
-          undo = λ k. note-same row (set row phaseAt 1) (λ i g l. phased 1 i (omega arith)) k ∙ zero-notes row zeros k;
-          clean = record {
-            notes = λ k l m. phased 1 (notesAt + k) (omega arith) ∙ zeros (notesAt + k);
-            marks = λ z i g l. phased 1 i (omega arith) ∙ zeros i;
-            spare = λ i g l. phased 1 i (omega arith) ∙ zeros i;
-            locks = λ i g l z. phased 1 i (omega arith) ∙ zeros i;
-            calls = λ z. (omega (arith, phased 1 1 (omega arith), zeros 1), λ i g l. phased 1 i (omega arith) ∙ zeros i);
-          };
-          locks = holds-alike text (tablesOf ws) p (rep .fits) row (set row phaseAt 1) [] (λ i g l. phased 1 i (omega arith))
-              (subst (λ (r : List ℕ). Holds p r []) (sym e) (blank-holds p));
-          now = new-word row phaseAt 1 (omega (arith, row-size));
-        }),
-  )
-    where
-      zeros : (i : ℕ) → getD row i 0 ≡ 0
-      zeros i = ap (λ (r : List ℕ). getD r i 0) e ∙ blank-word i
 
   module _ (t : Transaction (service p)) (open′ : OpenRep text (tablesOf ws) p row t) where
     -- The slot is closed.

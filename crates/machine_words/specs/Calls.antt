@@ -1,16 +1,16 @@
--- The five calls over the lent text, values and words. The words are laid out as in crates/layout/specs/Layout.antt; those past the
+-- The four calls over the lent text, values and words. The words are laid out as in crates/layout/specs/Layout.antt; those past the
 -- state are not the machine's.
 use Prim.Native.Nat.{ℕ, _+_, _*_, _%_}
 use mathlib.Core.Bool.{Bool, not, cond, _&&_}
 use mathlib.Core.Option.{Option, none, some}
 use mathlib.Core.List.{List}
-use lib.ListN.{length, getD, take, drop, set}
+use lib.ListN.{length, getD, take, drop}
 use lib.Seq.{sets}
 use lib.Dec.{eqb, leb, ltb}
 use Rattle.layout.specs.Layout.{valuesMost, valueCountAt, textLengthAt, startMarkAt, methodNamesAt, objectClassAt, tableWords, phaseAt, rowWords, stateWords}
 use Rattle.model.specs.Base.{least}
 use Rattle.model.specs.Undo.{putBack}
-use Rattle.model.specs.Service.{Call, begin, send, step, commit, abort, Answer, done, refuse, held}
+use Rattle.model.specs.Service.{Call, send, step, commit, abort, Answer, done, refuse, held}
 use Rattle.model.specs.Machine.{object, class, domain, Request, to}
 use Rattle.catalog.specs.View.{objectWord, classWord, classCount, objectCount, memberCount}
 use Rattle.machine_words.specs.Row.{Left, noteAt, freed, carried}
@@ -68,7 +68,7 @@ unfoldable pub inTheWay : List ℕ → List ℕ → ℕ → Wanted → ℕ → B
 unfolding rowOf rowMeets
 inTheWay text ws s q t = not (eqb t s) && not (eqb (phaseOf (rowOf ws t)) 0) && rowMeets text (tablesOf ws) q (rowOf ws t)
 
--- What a granted send leaves: it has its locks, and its message is at its start.
+-- What a granted send leaves: its slot is open, has its locks, and its message is at its start.
 abbrev pub startedAt : List ℕ → List ℕ → List ℕ → ℕ → Wanted → First → After
 startedAt text ws values s q f =
     record { answered = done; words = withRow ws s (entered q f (locked text (tablesOf ws) q (rowOf ws s))); values = values }
@@ -112,29 +112,25 @@ abbrev pub undoneAt : List ℕ → List ℕ → ℕ → After
 undoneAt ws values s = record { answered = done; words = withRow ws s (freed (rowOf ws s)); values = putBack (noteAt (rowOf ws s)) values }
 
 -- A call on a slot below 8, by its phase: closed, open, or with a message running.
-abbrev pub onClosed : List ℕ → List ℕ → Call Request → After
-onClosed ws values (begin s) = record { answered = done; words = withRow ws s (set (rowOf ws s) phaseAt 1); values = values }
-onClosed ws values (send s q) = refused ws values 32
-onClosed ws values (step s) = refused ws values 32
-onClosed ws values (commit s) = refused ws values 32
-onClosed ws values (abort s) = refused ws values 32
+abbrev pub onClosed : List ℕ → List ℕ → List ℕ → Call Request → After
+onClosed text ws values (send s q) = sentBy text ws values s q
+onClosed text ws values (step s) = refused ws values 32
+onClosed text ws values (commit s) = refused ws values 32
+onClosed text ws values (abort s) = refused ws values 32
 
 abbrev pub onIdle : List ℕ → List ℕ → List ℕ → Call Request → After
-onIdle text ws values (begin s) = refused ws values 33
 onIdle text ws values (send s q) = sentBy text ws values s q
 onIdle text ws values (step s) = refused ws values 35
 onIdle text ws values (commit s) = record { answered = done; words = withRow ws s (freed (rowOf ws s)); values = values }
 onIdle text ws values (abort s) = undoneAt ws values s
 
 abbrev pub onRunning : List ℕ → List ℕ → List ℕ → Call Request → After
-onRunning text ws values (begin s) = refused ws values 33
 onRunning text ws values (send s q) = refused ws values 34
 onRunning text ws values (step s) = laid ws s (carried (rowOf ws s) values (decided text (tablesOf ws) (rowOf ws s) values))
 onRunning text ws values (commit s) = refused ws values 34
 onRunning text ws values (abort s) = undoneAt ws values s
 
 abbrev pub slotIn : Call Request → ℕ
-slotIn (begin s) = s
 slotIn (send s q) = s
 slotIn (step s) = s
 slotIn (commit s) = s
@@ -143,7 +139,7 @@ slotIn (abort s) = s
 -- Any other phase is refused with 24.
 abbrev pub byPhase : List ℕ → List ℕ → List ℕ → Call Request → ℕ → After
 byPhase text ws values c phase =
-    cond (eqb phase 0) (onClosed ws values c)
+    cond (eqb phase 0) (onClosed text ws values c)
     (cond (eqb phase 1) (onIdle text ws values c)
     (cond (eqb phase 2) (onRunning text ws values c) (refused ws values 24)))
 

@@ -17,7 +17,7 @@ use Rattle.model.specs.Lock.{Lock, domainOf, locksFor, locksClash}
 pub use Rattle.model.specs.Undo.{Undo, firstValue, noted, restored, putBack}
 use Rattle.model.specs.Alone.{alone}
 use Rattle.model.specs.Service as Calls
-pub use Rattle.model.specs.Service.{begin, send, step, commit, abort, Answer, done, going, answer, refuse, held, stopped, World, Slot, closed, opened, Transaction}
+pub use Rattle.model.specs.Service.{send, step, commit, abort, Answer, done, going, answer, refuse, held, stopped, World, Slot, closed, opened, Transaction}
 use Rattle.model.specs.Service.{Service, fresh, runCalls}
 
 -- "A send names slot, method place, argument and one target".

@@ -16,7 +16,7 @@ use Rattle.model.specs.Message.{visited, turn}
 use Rattle.model.specs.Lock.{domainOf, locksClash}
 use Rattle.model.specs.Undo.{putBack}
 use Rattle.model.specs.Service.{World, fresh}
-use Rattle.model.specs.Machine.{object, class, domain, Call, Request, to, begin, send, step, commit, abort, Answer, done, going, answer, refuse, held, stopped, service, call}
+use Rattle.model.specs.Machine.{object, class, domain, Call, Request, to, send, step, commit, abort, Answer, done, going, answer, refuse, held, stopped, service, call}
 
 -- ---- lines to any machine that answers them
 
@@ -54,16 +54,15 @@ pub data Aim : Type 0 where
   atObject atClass atDomain : Name → Aim
 
 pub data CallLine : Type 0 where
-  beginLine stepLine commitLine abortLine : ℕ → CallLine
+  stepLine commitLine abortLine : ℕ → CallLine
   sendLine : ℕ → Aim → Name → ℕ → CallLine
 
--- "`begin S` .. `step S`, `commit S` and `abort S`"
+-- "`step S`, `commit S` and `abort S`"
 abbrev pub slotForm : List ℕ → ℕ → Option CallLine
 slotForm k s =
-    cond (same k (bytes "begin")) (some (beginLine s))
-    (cond (same k (bytes "step")) (some (stepLine s))
+    cond (same k (bytes "step")) (some (stepLine s))
     (cond (same k (bytes "commit")) (some (commitLine s))
-    (cond (same k (bytes "abort")) (some (abortLine s)) none)))
+    (cond (same k (bytes "abort")) (some (abortLine s)) none))
 
 -- "`send S OBJECT M A`, `all S CLASS M A`, `tree S CLASS M A`"
 abbrev pub sendForm : List ℕ → ℕ → Name → Name → ℕ → Option CallLine
@@ -100,7 +99,6 @@ requestFor l (atClass n) m a = let c = classNumber l n in to (class c) (memberPl
 requestFor l (atDomain n) m a = let c = classNumber l n in to (domain c) (memberPlace (classAt l c .methods) m) a
 
 abbrev pub callFor : Library → CallLine → Call
-callFor l (beginLine s) = begin s
 callFor l (stepLine s) = step s
 callFor l (commitLine s) = commit s
 callFor l (abortLine s) = abort s

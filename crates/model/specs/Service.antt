@@ -39,13 +39,13 @@ pub record Service : Type 1 where
   pub turn : Run → Fields → Outcome Run Effect
   -- the fields after an effect
   pub act : Effect → Fields → Fields
-  -- the undo notes at begin
+  -- the undo notes of a new transaction
   pub clean : Undo
   -- the undo notes after an effect on the fields
   pub noted : Undo → Effect → Fields → Undo
   -- the fields with all noted values put back
   pub putBack : Undo → Fields → Fields
-  -- the locks at begin
+  -- the locks of a new transaction
   pub unlocked : Locks
   -- the locks with those of a message added
   pub lock : Message → Locks → Locks
@@ -54,9 +54,8 @@ pub record Service : Type 1 where
   -- the course's run of one send: its answer and the fields after it; none where it would be stopped
   pub alone : Message → Fields → Option (ℕ × Fields)
 
--- "Calls: begin, send, step, commit, abort." Each names a slot.
+-- The calls (01, "The machine"; 02, Ticket 3). Each names a slot.
 pub data Call (Request : Type 0) : Type 0 where
-  begin : ℕ → Call Request
   send : ℕ → Request → Call Request
   step commit abort : ℕ → Call Request
 
@@ -124,13 +123,22 @@ module _ (𝓢 : Service) where
   abbrev pub withSlot : World → ℕ → Slot → World
   withSlot w s x = record { fields = w .fields; slots = put (w .slots) s x }
 
-  -- "begin opens it"
+  -- A transaction before its first granted send.
   abbrev pub newTransaction : Transaction
   newTransaction = record { locks = unlocked; undo = clean; running = none }
 
+  -- The transaction that a send to the slot belongs to: a new one where the slot is closed.
+  abbrev pub standing : Slot → Transaction
+  standing closed = newTransaction
+  standing (opened t) = t
+
   -- The transaction with a message's locks added and the message started.
-  abbrev pub started : Transaction → Message → Transaction
-  started t m = record { locks = lock m (t .locks); undo = t .undo; running = some (begun m) }
+  abbrev pub starting : Transaction → Message → Transaction
+  starting t m = record { locks = lock m (t .locks); undo = t .undo; running = some (begun m) }
+
+  -- "the first granted send to a closed slot opens it" (02, Ticket 3)
+  abbrev pub started : World → ℕ → Message → World
+  started w s m = withSlot w s (opened (starting (standing (w .slots s)) m))
 
   -- The transaction with the note of an effect on the fields, and with what runs next.
   abbrev pub advanced : Transaction → Effect → Fields → Option Run → Transaction
@@ -138,22 +146,21 @@ module _ (𝓢 : Service) where
 
   -- The locks of a slot.
   abbrev pub heldBy : Slot → Locks
-  heldBy closed = unlocked
-  heldBy (opened t) = t .locks
+  heldBy x = standing x .locks
 
   -- Whether slot t is another than s and holds a lock that clashes with the message.
   abbrev pub inTheWay : World → ℕ → Message → ℕ → Bool
   inTheWay w s m t = not (eqb t s) && clash m (heldBy (w .slots t))
 
   -- "A send clashing with no other slot gets all its locks and starts; otherwise 40 names the lowest clashing slot."
-  abbrev pub granted : World → ℕ → Transaction → Message → Option ℕ → Answer × World
-  granted w s t m (some k) = (held k, w)
-  granted w s t m none = (done, withSlot w s (opened (started t m)))
+  abbrev pub granted : World → ℕ → Message → Option ℕ → Answer × World
+  granted w s m (some k) = (held k, w)
+  granted w s m none = (done, started w s m)
 
-  -- "36 no such object, class or method"; "40, after 36"
-  abbrev pub sent : World → ℕ → Transaction → Option Message → Answer × World
-  sent w s t none = (refuse 36, w)
-  sent w s t (some m) = granted w s t m (least (inTheWay w s m) 8)
+  -- "36 no such object, class or method"; "40, after 36"; "A first send that gets 36 or 40 leaves the slot closed" (02, Ticket 3).
+  abbrev pub sent : World → ℕ → Option Message → Answer × World
+  sent w s none = (refuse 36, w)
+  sent w s (some m) = granted w s m (least (inTheWay w s m) 8)
 
   -- "Abort puts back .. and frees the slot."
   abbrev pub undone : World → ℕ → Transaction → World
@@ -169,25 +176,22 @@ module _ (𝓢 : Service) where
   stepped w s t (ends v e) = (answer v, after w s t e none)
   stepped w s t stops = (stopped, undone w s t)
 
-  -- On a closed slot: "32 slot not open (send, step, commit, abort)"
+  -- On a closed slot: "32 remains for step, commit and abort" (02, Ticket 3).
   abbrev pub onClosed : World → Call Request → Answer × World
-  onClosed w (begin s) = (done, withSlot w s (opened newTransaction))
-  onClosed w (send s q) = (refuse 32, w)
+  onClosed w (send s q) = sent w s (find q)
   onClosed w (step s) = (refuse 32, w)
   onClosed w (commit s) = (refuse 32, w)
   onClosed w (abort s) = (refuse 32, w)
 
-  -- On an open slot where no message runs: 33, "35 no message running (step)"; "Commit frees the slot and leaves the fields."
+  -- On an open slot where no message runs: "35 no message running (step)"; "Commit frees the slot and leaves the fields."
   abbrev pub onIdle : World → Transaction → Call Request → Answer × World
-  onIdle w t (begin s) = (refuse 33, w)
-  onIdle w t (send s q) = sent w s t (find q)
+  onIdle w t (send s q) = sent w s (find q)
   onIdle w t (step s) = (refuse 35, w)
   onIdle w t (commit s) = (done, withSlot w s closed)
   onIdle w t (abort s) = (done, undone w s t)
 
-  -- On an open slot where a message runs: "33 slot open (begin)", "34 message running (send, commit)"
+  -- On an open slot where a message runs: "34 message running (send, commit)"
   abbrev pub onRunning : World → Transaction → Run → Call Request → Answer × World
-  onRunning w t r (begin s) = (refuse 33, w)
   onRunning w t r (send s q) = (refuse 34, w)
   onRunning w t r (step s) = stepped w s t (turn r (w .fields))
   onRunning w t r (commit s) = (refuse 34, w)
@@ -205,7 +209,6 @@ module _ (𝓢 : Service) where
 
   -- The slot that a call names.
   abbrev pub slotOf : Call Request → ℕ
-  slotOf (begin s) = s
   slotOf (send s q) = s
   slotOf (step s) = s
   slotOf (commit s) = s
@@ -290,7 +293,7 @@ module _ (𝓢 : Service) where
         compared = x .compared ++ comparedIn (x .slots s .list) (x .fields);
       }
 
-  -- "A granted send becomes its slot's latest send."
+  -- "A granted send becomes its slot's latest send."; "counts a transaction from its first granted send" (02, Ticket 3).
   abbrev pub named : Course → ℕ → Option Message → Course
   named x s none = x
   named x s (some m) = withSends x s (record { latest = some m; list = x .slots s .list })
@@ -320,7 +323,6 @@ module _ (𝓢 : Service) where
 
   -- The course, fed one call with its answer.
   abbrev pub fed : Course → Call Request → Answer → Course
-  fed x (begin s) a = ifDone a x (withSends x s noSends)
   fed x (send s q) a = ifDone a x (named x s (find q))
   fed x (step s) a = afterStep a x s
   fed x (commit s) a = ifDone a x (committed x s)

@@ -87,7 +87,6 @@ long-none (k ∷ s ∷ []) h = go (isNumber s) refl
     go true e =
         let few = number-few s e in
         rw (
-          same-lengths k (bytes "begin") (λ q. omega arith),
           same-lengths k (bytes "step") (λ q. omega arith),
           same-lengths k (bytes "commit") (λ q. omega arith),
           same-lengths k (bytes "abort") (λ q. omega arith),

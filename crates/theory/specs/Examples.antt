@@ -20,7 +20,7 @@ use Rattle.model.specs.Image.{image, u32Bytes, startingValues, startingValuesIn
 use Rattle.model.specs.Tables.{printed, printAnswer, printedInto, letters}
 use Rattle.model.specs.Rehearsal.{rehearsed}
 use Rattle.model.specs.Service.{callNumber, callDetail}
-use Rattle.model.specs.Machine.{object, class, domain, to, Call, begin, send, step, commit, abort, Answer, done, going, answer, refuse, held, stopped, startAnswer, played}
+use Rattle.model.specs.Machine.{object, class, domain, to, Call, send, step, commit, abort, Answer, done, going, answer, refuse, held, stopped, startAnswer, played}
 use Rattle.model.specs.Course.{Compared, course}
 use Rattle.theory.specs.ExampleTexts.{text, lanes, figure1, endless, diamond, circle, prefixed, mixed, long}
 
@@ -130,16 +130,15 @@ starred =
     values "< 0 4294967295" 0 ∷
     values "< 4294967295 0" 1 ∷
     values "< 2147483648 2147483647" 1 ∷
-    plays lanes (begin 0 ∷ begin 1 ∷ begin 2 ∷ send 0 (to (object 0) 0 0) ∷ send 1 (to (object 0) 1 0) ∷ send 2 (to (object 0) 2 0) ∷ [])
-    (done ∷ done ∷ done ∷ done ∷ done ∷ held 0 ∷ []) (0 ∷ 0 ∷ 0 ∷ []) ∷
-    plays lanes (begin 0 ∷ send 0 (to (object 0) 0 40) ∷ step 0 ∷ step 0 ∷ step 0 ∷ step 0 ∷ step 0 ∷ send 0 (to (object 0) 2 0) ∷ [])
-    (done ∷ done ∷ going ∷ going ∷ going ∷ going ∷ answer 0 ∷ done ∷ []) (1 ∷ 0 ∷ 40 ∷ []) ∷
-    plays lanes (begin 0 ∷ send 0 (to (object 0) 2 5) ∷ step 0 ∷ step 0 ∷ send 0 (to (object 0) 2 5) ∷ step 0 ∷ step 0 ∷ [])
-    (done ∷ done ∷ going ∷ answer 0 ∷ done ∷ going ∷ answer 0 ∷ []) (0 ∷ 0 ∷ 10 ∷ []) ∷
-    plays lanes (begin 0 ∷ send 0 (to (object 0) 2 5) ∷ step 0 ∷ step 0 ∷ send 0 (to (object 0) 2 5) ∷ step 0 ∷ step 0 ∷ abort 0 ∷ [])
-    (done ∷ done ∷ going ∷ answer 0 ∷ done ∷ going ∷ answer 0 ∷ done ∷ []) (0 ∷ 0 ∷ 0 ∷ []) ∷
-    plays lanes (begin 1 ∷ send 1 (to (object 0) 1 0) ∷ begin 0 ∷ send 0 (to (class 1) 0 0) ∷ []) (done ∷ done ∷ done ∷ done ∷ []) (0 ∷ 0 ∷ 0 ∷ []) ∷
-    plays endless (begin 0 ∷ send 0 (to (object 0) 0 0) ∷ replicate 8 (step 0)) (done ∷ done ∷ replicate 7 going ++ (stopped ∷ [])) [] ∷ []
+    plays lanes (send 0 (to (object 0) 0 0) ∷ send 1 (to (object 0) 1 0) ∷ send 2 (to (object 0) 2 0) ∷ []) (done ∷ done ∷ held 0 ∷ []) (0 ∷ 0 ∷ 0 ∷ []) ∷
+    plays lanes (send 0 (to (object 0) 0 40) ∷ step 0 ∷ step 0 ∷ step 0 ∷ step 0 ∷ step 0 ∷ send 0 (to (object 0) 2 0) ∷ [])
+    (done ∷ going ∷ going ∷ going ∷ going ∷ answer 0 ∷ done ∷ []) (1 ∷ 0 ∷ 40 ∷ []) ∷
+    plays lanes (send 0 (to (object 0) 2 5) ∷ step 0 ∷ step 0 ∷ send 0 (to (object 0) 2 5) ∷ step 0 ∷ step 0 ∷ [])
+    (done ∷ going ∷ answer 0 ∷ done ∷ going ∷ answer 0 ∷ []) (0 ∷ 0 ∷ 10 ∷ []) ∷
+    plays lanes (send 0 (to (object 0) 2 5) ∷ step 0 ∷ step 0 ∷ send 0 (to (object 0) 2 5) ∷ step 0 ∷ step 0 ∷ abort 0 ∷ [])
+    (done ∷ going ∷ answer 0 ∷ done ∷ going ∷ answer 0 ∷ done ∷ []) (0 ∷ 0 ∷ 0 ∷ []) ∷
+    plays lanes (send 1 (to (object 0) 1 0) ∷ send 0 (to (class 1) 0 0) ∷ []) (done ∷ done ∷ []) (0 ∷ 0 ∷ 0 ∷ []) ∷
+    plays endless (send 0 (to (object 0) 0 0) ∷ replicate 8 (step 0)) (done ∷ replicate 7 going ++ (stopped ∷ [])) [] ∷ []
 
 -- The builder's numbers, and the buffers after a refusal.
 abbrev lent : List Row
@@ -162,32 +161,34 @@ vectors =
     prints circle (text ("a p WRW nnnn" ∷ "a q WRW nnnn" ∷ "a r WRW nnnn" ∷ "a s WRW nnnn" ∷ [])) ∷
     prints prefixed (text ("a m WN nn" ∷ "a n WN nn" ∷ "b m NW nn" ∷ "b n NW nn" ∷ "c m NNW nn" ∷ "c n NNW nn" ∷ [])) ∷ []
 
--- In `mixed` the methods of a and b are g 0 and h 1; the objects are one of a, one of b and another of a.
+-- In `mixed` the methods of a and b are g 0 and h 1; the objects are one of a, one of b and another of a. A first send that gets 36 or
+-- 40 leaves its slot closed.
 abbrev machine : List Row
 machine =
-    plays mixed (begin 0 ∷ send 0 (to (domain 0) 0 3) ∷ replicate 12 (step 0))
-    (done ∷ done ∷ replicate 11 going ++ (answer 18 ∷ [])) (8 ∷ 7 ∷ 3 ∷ 2 ∷ []) ∷
-    plays mixed (begin 8 ∷ begin 7 ∷ begin 7 ∷ step 6 ∷ send 7 (to (object 3) 0 0) ∷ send 7 (to (class 3) 0 0) ∷ send 7 (to (object 0) 2 0) ∷ abort 7 ∷ abort 7 ∷ [])
-    (refuse 31 ∷ done ∷ refuse 33 ∷ refuse 32 ∷ refuse 36 ∷ refuse 36 ∷ refuse 36 ∷ done ∷ refuse 32 ∷ []) (5 ∷ 7 ∷ 0 ∷ 4294967295 ∷ []) ∷
+    plays mixed (send 0 (to (domain 0) 0 3) ∷ replicate 12 (step 0)) (done ∷ replicate 11 going ++ (answer 18 ∷ [])) (8 ∷ 7 ∷ 3 ∷ 2 ∷ []) ∷
     plays mixed
-    (begin 5 ∷ send 5 (to (object 1) 0 9) ∷ step 5 ∷ step 5 ∷ begin 2 ∷ send 2 (to (domain 0) 0 1) ∷ send 2 (to (class 0) 0 1) ∷ step 2 ∷ abort 2 ∷ abort 5 ∷ [])
-    (done ∷ done ∷ going ∷ going ∷ done ∷ held 5 ∷ done ∷ going ∷ done ∷ done ∷ []) (5 ∷ 7 ∷ 0 ∷ 4294967295 ∷ []) ∷
+    (send 8 (to (object 0) 1 0) ∷ step 6 ∷ send 7 (to (object 3) 0 0) ∷ send 7 (to (class 3) 0 0) ∷ send 7 (to (object 0) 2 0) ∷ abort 7 ∷
+    send 7 (to (object 0) 1 0) ∷ abort 7 ∷ abort 7 ∷ [])
+    (refuse 31 ∷ refuse 32 ∷ refuse 36 ∷ refuse 36 ∷ refuse 36 ∷ refuse 32 ∷ done ∷ done ∷ refuse 32 ∷ []) (5 ∷ 7 ∷ 0 ∷ 4294967295 ∷ []) ∷
+    plays mixed
+    (send 5 (to (object 1) 0 9) ∷ step 5 ∷ step 5 ∷ send 2 (to (domain 0) 0 1) ∷ commit 2 ∷ send 2 (to (class 0) 0 1) ∷ step 2 ∷ abort 2 ∷ abort 5 ∷ [])
+    (done ∷ going ∷ going ∷ held 5 ∷ refuse 32 ∷ done ∷ going ∷ done ∷ done ∷ []) (5 ∷ 7 ∷ 0 ∷ 4294967295 ∷ []) ∷
     []
 
 -- A message of 1,024 steps, and one of one more step.
 abbrev stops : List Row
 stops =
-    plays long (begin 0 ∷ send 0 (to (object 0) 1 0) ∷ replicate 1024 (step 0)) (done ∷ done ∷ replicate 1023 going ++ (answer 0 ∷ [])) (961 ∷ []) ∷
-    plays long (begin 0 ∷ send 0 (to (object 0) 2 0) ∷ replicate 1025 (step 0)) (done ∷ done ∷ replicate 1023 going ++ (stopped ∷ refuse 32 ∷ [])) (0 ∷ []) ∷ []
+    plays long (send 0 (to (object 0) 1 0) ∷ replicate 1024 (step 0)) (done ∷ replicate 1023 going ++ (answer 0 ∷ [])) (961 ∷ []) ∷
+    plays long (send 0 (to (object 0) 2 0) ∷ replicate 1025 (step 0)) (done ∷ replicate 1023 going ++ (stopped ∷ refuse 32 ∷ [])) (0 ∷ []) ∷ []
 
 -- A list that leaves nothing open, against the plain course.
 abbrev courses : List Row
 courses =
     agrees mixed
-    (begin 0 ∷ begin 1 ∷ send 0 (to (object 0) 0 1) ∷ send 1 (to (class 1) 0 2) ∷ step 0 ∷ step 1 ∷ step 1 ∷ step 0 ∷ step 1 ∷ step 1 ∷ step 0 ∷ step 1 ∷ step 1 ∷
-    commit 1 ∷ send 0 (to (domain 0) 0 4) ∷ replicate 12 (step 0) ++ (commit 0 ∷ begin 0 ∷ send 0 (to (object 0) 0 7) ∷ step 0 ∷ abort 0 ∷ [])) ∷ []
+    (send 0 (to (object 0) 0 1) ∷ send 1 (to (class 1) 0 2) ∷ step 0 ∷ step 1 ∷ step 1 ∷ step 0 ∷ step 1 ∷ step 1 ∷ step 0 ∷ step 1 ∷ step 1 ∷
+    commit 1 ∷ send 0 (to (domain 0) 0 4) ∷ replicate 12 (step 0) ++ (commit 0 ∷ send 0 (to (object 0) 0 7) ∷ step 0 ∷ abort 0 ∷ [])) ∷ []
 
--- 51 for a line of another form and for a last line without LF, 36 for an unknown name, 40 with its slot; 32 and 34 before an unknown
+-- 51 for a line of another form and for a last line without LF, 36 for an unknown name, 40 with its slot; 31 and 34 before an unknown
 -- name, and the values as an open transaction left them; a faulty text; no input.
 abbrev adder : List ℕ
 adder = text ("class a" ∷ "field x" ∷ "method m" ∷ "set x + x arg" ∷ "end" ∷ "object o a 5" ∷ [])
@@ -196,11 +197,10 @@ abbrev rehearsals : List Row
 rehearsals =
     rehearses adder
     (text
-    ("begin 0" ∷ "send 0 o m 3" ∷ "step 0" ∷ "step 0" ∷ "begin 1" ∷ "send 1 o m 1" ∷ "send 1 o q 1" ∷ "all 1 b m 1" ∷ "step" ∷ "commit 0" ∷ "tree 1 a m 4" ∷ "begin 8" ∷ []) ++ bytes "abort 1")
-    (text ("ok" ∷ "ok" ∷ "going" ∷ "answer 0" ∷ "ok" ∷ "40 0" ∷ "36" ∷ "36" ∷ "51" ∷ "ok" ∷ "ok" ∷ "31" ∷ "51" ∷ "o 8" ∷ [])) ∷
-    rehearses adder (text ("send 0 b m 1" ∷ "begin 0" ∷ "send 0 o m 3" ∷ "step 0" ∷ "send 0 b m 1" ∷ []))
-    (text ("32" ∷ "ok" ∷ "ok" ∷ "going" ∷ "34" ∷ "o 8" ∷ [])) ∷
-    rehearses (bytes "class a\nclass a\n") (bytes "begin 0\n") (bytes "refused 13 2\n") ∷
+    ("send 0 o m 3" ∷ "step 0" ∷ "step 0" ∷ "send 1 o m 1" ∷ "step 1" ∷ "send 1 o q 1" ∷ "all 1 b m 1" ∷ "step" ∷ "open 1" ∷ "commit 0" ∷ "tree 1 a m 4" ∷ "step 8" ∷ []) ++ bytes "abort 1")
+    (text ("ok" ∷ "going" ∷ "answer 0" ∷ "40 0" ∷ "32" ∷ "36" ∷ "36" ∷ "51" ∷ "51" ∷ "ok" ∷ "ok" ∷ "31" ∷ "51" ∷ "o 8" ∷ [])) ∷
+    rehearses adder (text ("send 8 b m 1" ∷ "send 0 o m 3" ∷ "step 0" ∷ "send 0 b m 1" ∷ [])) (text ("31" ∷ "ok" ∷ "going" ∷ "34" ∷ "o 8" ∷ [])) ∷
+    rehearses (bytes "class a\nclass a\n") (bytes "step 0\n") (bytes "refused 13 2\n") ∷
     rehearses lanes [] (text ("lane1 0 0 0" ∷ [])) ∷
     rehearses [] [] [] ∷
     []

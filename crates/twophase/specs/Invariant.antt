@@ -7,14 +7,14 @@ use mathlib.Core.Option.{Option, none, some}
 use mathlib.Core.List.{List, [], _∷_, _++_}
 use Rattle.model.specs.Base.{put}
 use Rattle.laws.specs.Basics.{put-cases, All, In, all-at, all-of}
-use Rattle.model.specs.Service.{Service, Transaction, Slot, closed, opened, World, Answered, Sends, Course, fieldsAfter, answerOf, replayed, comparedIn}
+use Rattle.model.specs.Service.{Service, Transaction, Slot, closed, opened, World, standing, Answered, Sends, Course, fieldsAfter, answerOf, replayed, comparedIn}
 use Rattle.twophase.specs.Claims.{Right}
 use Rattle.twophase.specs.Laws.{Part, Laws}
 use Rattle.twophase.specs.Effects.{acts, over, Swap, Apart, pull, push}
 
 module _ (𝓢 : Service) (𝓛 : Laws 𝓢) where
   open Service 𝓢 using (Fields, Message, Run, Effect, Undo, turn, act, putBack, clash, alone)
-  open Laws 𝓛 using (Ok, Of, May, Agree, Free, Aside, agree-refl, agree-sym, agree-trans, agree-act, turn-local, ok-act, free-sym, free-commute, free-agree, aside-back)
+  open Laws 𝓛 using (Ok, Of, May, Agree, Free, Aside, agree-refl, agree-sym, agree-trans, agree-act, turn-local, ok-act, free-sym, free-commute, free-agree, aside-back, aside-clean, back-clean)
 
   -- ---- the invariant
 
@@ -59,9 +59,9 @@ module _ (𝓢 : Service) (𝓛 : Laws 𝓢) where
     pub right : (Q : Fields) → AllAgree ms P Q → All Right (comparedIn 𝓢 (s .list) Q)
     pub activity : Activity P ms d s (y .running)
 
-  -- The state of a slot; a closed one has no messages and no effects.
+  -- The state of a slot; a closed one has no messages, no effects and no answered sends.
   abbrev pub SlotState : Fields → List Message → List Effect → Sends 𝓢 → Slot 𝓢 → Type 0
-  SlotState P ms d s closed = (ms ≡ []) × (d ≡ [])
+  SlotState P ms d s closed = (ms ≡ []) × (d ≡ []) × (s .list ≡ [])
   SlotState P ms d s (opened y) = Open P ms d y s
 
   -- Machine and course: for each slot the messages granted to its open transaction and that transaction's effects, latest first.
@@ -208,12 +208,28 @@ module _ (𝓢 : Service) (𝓛 : Laws 𝓢) where
       free-from m i k ne = all-at (λ m. All (Free m) (messages k)) (messages t) m i (free t k ne)
 
       -- A closed slot's state.
-      pub closed-state : w .slots t ≡ closed → (messages t ≡ []) × (effects t ≡ [])
+      pub closed-state : w .slots t ≡ closed → (messages t ≡ []) × (effects t ≡ []) × (x .slots t .list ≡ [])
       closed-state q = subst (SlotState (x .fields) (messages t) (effects t) (x .slots t)) q (inv .slot t)
 
       -- An open slot's state.
       pub open-state : (y : Transaction 𝓢) → w .slots t ≡ opened y → Open (x .fields) (messages t) (effects t) y (x .slots t)
       open-state y q = subst (SlotState (x .fields) (messages t) (effects t) (x .slots t)) q (inv .slot t)
+
+      -- The state of the transaction that a send to the slot belongs to: a closed slot is as one that a new transaction opened.
+      pub standing-state : Open (x .fields) (messages t) (effects t) (standing 𝓢 (w .slots t)) (x .slots t)
+      standing-state = go (w .slots t) (inv .slot t)
+        where
+          go : (z : Slot 𝓢) → SlotState (x .fields) (messages t) (effects t) (x .slots t) z
+              → Open (x .fields) (messages t) (effects t) (standing 𝓢 z) (x .slots t)
+          go (opened y) v = v
+          go closed v =
+              record {
+                held = λ m c. subst (All (Free m)) (sym (v .0)) tt;
+                far = λ m f e may. aside-clean e;
+                undoes = back-clean _ ∙ ap (λ d. acts act d (x .fields)) (v .1);
+                right = λ Q a. subst (λ l. All Right (comparedIn 𝓢 l Q)) (sym (v .2)) tt;
+                activity = record { same = λ Q a. ap (λ d. acts act d Q) (v .1) ∙ ap (λ l. replayed 𝓢 l Q) (sym (v .2)) };
+              }
 
       -- The slot's effects commute with the others'.
       pub swap-others : (k : ℕ) → Swap act (effects t) (others k)

@@ -1,4 +1,5 @@
 pub mod Claims
+pub mod Moves
 pub mod Laws
 pub mod Effects
 pub mod Invariant

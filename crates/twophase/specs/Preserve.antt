@@ -1,5 +1,5 @@
--- Each transition preserves the invariant: a slot opens, the course names a send, a send is granted, a step has its effect, a
--- slot closes. Theorem says which call makes which transition.
+-- Each transition preserves the invariant: the course names a send, a send is granted, a step has its effect, a slot closes.
+-- Theorem says which call makes which transition.
 use Prim.Native.Nat.{ℕ, _≤_, _<_}
 use native.Mathlib.Omega.{arith}
 use mathlib.Core.Path.{_≡_, refl, sym, ap, _∙_, subst}
@@ -8,29 +8,66 @@ use mathlib.Core.Option.{Option, none, some}
 use mathlib.Core.List.{List, [], _∷_, _++_}
 use Rattle.model.specs.Base.{put}
 use Rattle.laws.specs.Basics.{put-same, put-other, put-id, put-cases, at-or, below-or, All, In, here, there, all-at, all-of, all-map, all-append}
-use Rattle.model.specs.Service.{Service, goes, ends, Compared, Transaction, Slot, closed, opened, World, withFields, withSlot, newTransaction, started, advanced, heldBy, granted, undone, after, Answered, Sends, Course, noSends, withSends, fieldsAfter, answerOf, replayed, comparedIn, committed, named, addAnswer}
+use Rattle.model.specs.Service.{Service, goes, ends, Compared, Transaction, Slot, closed, opened, World, withFields, withSlot, standing, starting, started, advanced, heldBy, undone, after, Answered, Sends, Course, noSends, withSends, fieldsAfter, answerOf, replayed, comparedIn, committed, named, addAnswer}
 use Rattle.twophase.specs.Claims.{Right}
 use Rattle.twophase.specs.Laws.{Part, start, more, Laws}
 use Rattle.twophase.specs.Effects.{acts, over, push, over-more}
-use Rattle.twophase.specs.Invariant.{Made, AllFree, AllAgree, Idle, Busy, Activity, Open, SlotState, Invariant, apart, back-acts, agree-made, ok-acts, all-free-sym, over-other, replayed-more, right-more, all-apart, fields-ok, agree-self, others, free-from, swap-others, closed-state, open-state, back-below, split, view, same-turn}
+use Rattle.twophase.specs.Invariant.{Made, AllFree, AllAgree, Idle, Busy, Activity, Open, SlotState, Invariant, apart, back-acts, agree-made, ok-acts, all-free-sym, over-other, replayed-more, right-more, all-apart, fields-ok, agree-self, others, free-from, swap-others, closed-state, open-state, standing-state, back-below, split, view, same-turn}
 
 module _ (𝓢 : Service) (𝓛 : Laws 𝓢) (w : World 𝓢) (x : Course 𝓢) (inv : Invariant 𝓢 𝓛 w x) (t : ℕ) (below : t < 8) where
   open Service 𝓢 using (Fields, Message, Run, Effect, begun, turn, act, noted, putBack, lock, clash, alone)
-  open Laws 𝓛 using (Ok, May, Free, of-begun, of-turn, may-goes, may-ends, free-sym, free-lock, back-clean, back-noted, noted-local, aside-clean, aside-noted, alone-end)
+  open Laws 𝓛 using (Ok, May, Free, of-begun, of-turn, may-goes, may-ends, free-sym, free-lock, back-noted, noted-local, aside-noted, alone-end)
   open Invariant inv using (messages, effects, free, made)
 
   -- The slots from 8 on stay closed.
   still-high : (y : Slot 𝓢) (k : ℕ) → 8 ≤ k → put (w .slots) t y k ≡ closed
   still-high y k far = put-other (w .slots) t y k (omega arith) ∙ inv .high k far
 
-  -- A closed slot opens, and the course's list of its sends is empty.
-  pub begun-keeps : w .slots t ≡ closed → Invariant 𝓢 𝓛 (withSlot 𝓢 w t (opened (newTransaction 𝓢))) (withSends 𝓢 x t (noSends 𝓢))
-  begun-keeps q =
+  -- The course makes a send the latest of a slot where no message runs.
+  pub named-keeps : standing 𝓢 (w .slots t) .running ≡ none → (m : Message) → Invariant 𝓢 𝓛 w (named 𝓢 x t (some m))
+  named-keeps n m =
       record {
         messages = messages;
         effects = effects;
         free = free;
         made = made;
+        slot = put-cases (λ k s. SlotState 𝓢 𝓛 (x .fields) (messages k) (effects k) s (w .slots k)) (x .slots) t sends
+            (now (w .slots t) n (inv .slot t)) (λ k ne. inv .slot k);
+        high = inv .high;
+        ok = inv .ok;
+        total = inv .total;
+        good = inv .good;
+      }
+    where
+      sends : Sends 𝓢
+      sends = record { latest = some m; list = x .slots t .list }
+
+      idle : (r : Option Run) → r ≡ none → Activity 𝓢 𝓛 (x .fields) (messages t) (effects t) (x .slots t) r
+          → Activity 𝓢 𝓛 (x .fields) (messages t) (effects t) sends r
+      idle none e v = record { same = v .same }
+      idle (some r) e v = absurd (let z : _≡_ {A = ℕ} 0 1 = cc in omega arith)
+
+      now : (z : Slot 𝓢) → standing 𝓢 z .running ≡ none → SlotState 𝓢 𝓛 (x .fields) (messages t) (effects t) (x .slots t) z
+          → SlotState 𝓢 𝓛 (x .fields) (messages t) (effects t) sends z
+      now closed e v = v
+      now (opened y) e v =
+          record { held = v .held; far = v .far; undoes = v .undoes; right = v .right; activity = idle (y .running) e (v .activity) }
+
+  -- The latest send, which clashes with no other slot's locks, gets its locks and starts.
+  pub started-keeps : standing 𝓢 (w .slots t) .running ≡ none → (m : Message) → x .slots t .latest ≡ some m
+      → ((k : ℕ) → (k ≡ t → ⊥) → k < 8 → clash m (heldBy 𝓢 (w .slots k)) ≡ false)
+      → Invariant 𝓢 𝓛 (started 𝓢 w t m) x
+  started-keeps n m l clear =
+      record {
+        messages = grown;
+        effects = effects;
+        free = put-cases (λ k ms. (s : ℕ) → (k ≡ s → ⊥) → AllFree 𝓢 𝓛 ms (grown s)) messages t (m ∷ messages t)
+            (λ s ne. rw (put-other messages t (m ∷ messages t) s (λ e. ne (sym e))) (clear-of s (λ e. ne (sym e)), free t s ne))
+            (λ k nt. put-cases (λ s ms. (k ≡ s → ⊥) → AllFree 𝓢 𝓛 (messages k) ms) messages t (m ∷ messages t)
+            (λ ne. all-free-sym 𝓢 𝓛 (m ∷ messages t) (messages k) (clear-of k nt, free t k (λ e. nt (sym e))))
+            (λ s ns ne. free k s ne));
+        made = put-cases (λ k ms. Made 𝓢 𝓛 ms (effects k)) messages t (m ∷ messages t)
+            (all-map _ _ (effects t) (λ e made. (made .0, there (made .1), made .2)) (made t)) (λ k ne. made k);
         slot = at-or _ t (simp put-same now) (λ k ne. simp (put-other, ne) (inv .slot k));
         high = still-high _;
         ok = inv .ok;
@@ -38,16 +75,41 @@ module _ (𝓢 : Service) (𝓛 : Laws 𝓢) (w : World 𝓢) (x : Course 𝓢) 
         good = inv .good;
       }
     where
-      none-there : (messages t ≡ []) × (effects t ≡ [])
-      none-there = closed-state 𝓢 𝓛 w x inv t q
+      y : Transaction 𝓢
+      y = standing 𝓢 (w .slots t)
 
-      now : Open 𝓢 𝓛 (x .fields) (messages t) (effects t) (newTransaction 𝓢) (noSends 𝓢)
+      before : Open 𝓢 𝓛 (x .fields) (messages t) (effects t) y (x .slots t)
+      before = standing-state 𝓢 𝓛 w x inv t
+
+      idle : Idle 𝓢 𝓛 (x .fields) (messages t) (effects t) (x .slots t)
+      idle = subst (Activity 𝓢 𝓛 (x .fields) (messages t) (effects t) (x .slots t)) n (before .activity)
+
+      grown : ℕ → List Message
+      grown = put messages t (m ∷ messages t)
+
+      free-of : (k : ℕ) (s : Slot 𝓢) → SlotState 𝓢 𝓛 (x .fields) (messages k) (effects k) (x .slots k) s
+          → clash m (heldBy 𝓢 s) ≡ false → All (Free m) (messages k)
+      free-of k closed v c = subst (All (Free m)) (sym (v .0)) tt
+      free-of k (opened z) v c = v .held m c
+
+      clear-of : (k : ℕ) → (k ≡ t → ⊥) → All (Free m) (messages k)
+      clear-of = below-or (λ k. (k ≡ t → ⊥) → All (Free m) (messages k)) 8
+          (λ k low ne. free-of k (w .slots k) (inv .slot k) (clear k ne low))
+          (λ k far ne. subst (All (Free m)) (sym (closed-state 𝓢 𝓛 w x inv k (inv .high k far) .0)) tt)
+
+      now : Open 𝓢 𝓛 (x .fields) (m ∷ messages t) (effects t) (starting 𝓢 y m) (x .slots t)
       now = record {
-        held = λ m c. subst (All (Free m)) (sym (none-there .0)) tt;
-        far = λ m f e may. aside-clean e;
-        undoes = back-clean _ ∙ ap (λ d. acts act d (x .fields)) (none-there .1);
-        right = λ Q a. tt;
-        activity = record { same = λ Q a. ap (λ d. acts act d Q) (none-there .1) };
+        held = λ m′ c. let r = free-lock m′ m (y .locks) c in (r .1, before .held m′ (r .0));
+        far = λ m′ f. before .far m′ (f .1);
+        undoes = before .undoes;
+        right = λ Q a. before .right Q (a .1);
+        activity = record {
+          message = m;
+          among = here refl;
+          of = of-begun m;
+          latest = l;
+          part = λ Q a. subst (Part 𝓢 m (replayed 𝓢 (x .slots t .list) Q) (begun m)) (sym (idle .same Q (a .1))) start;
+        };
       }
 
   module _ (y : Transaction 𝓢) (q : w .slots t ≡ opened y) where
@@ -58,84 +120,6 @@ module _ (𝓢 : Service) (𝓛 : Laws 𝓢) (w : World 𝓢) (x : Course 𝓢) 
     -- What is known of the slot, given its running message.
     state : (r : Option Run) → y .running ≡ r → Activity 𝓢 𝓛 (x .fields) (messages t) (effects t) (x .slots t) r
     state r n = subst (Activity 𝓢 𝓛 (x .fields) (messages t) (effects t) (x .slots t)) n (before .activity)
-
-    -- The course makes a send the latest of a slot where no message runs.
-    pub named-keeps : y .running ≡ none → (m : Message) → Invariant 𝓢 𝓛 w (named 𝓢 x t (some m))
-    named-keeps n m =
-        record {
-          messages = messages;
-          effects = effects;
-          free = free;
-          made = made;
-          slot = put-cases (λ k s. SlotState 𝓢 𝓛 (x .fields) (messages k) (effects k) s (w .slots k)) (x .slots) t sends
-              (subst (SlotState 𝓢 𝓛 (x .fields) (messages t) (effects t) sends) (sym q) now) (λ k ne. inv .slot k);
-          high = inv .high;
-          ok = inv .ok;
-          total = inv .total;
-          good = inv .good;
-        }
-      where
-        sends : Sends 𝓢
-        sends = record { latest = some m; list = x .slots t .list }
-
-        now : Open 𝓢 𝓛 (x .fields) (messages t) (effects t) y sends
-        now = record {
-          held = before .held;
-          far = before .far;
-          undoes = before .undoes;
-          right = before .right;
-          activity = subst (Activity 𝓢 𝓛 (x .fields) (messages t) (effects t) sends) (sym n) (record { same = state none n .same });
-        }
-
-    -- The latest send, which clashes with no other slot's locks, gets its locks and starts.
-    pub granted-keeps : y .running ≡ none → (m : Message) → x .slots t .latest ≡ some m
-        → ((k : ℕ) → (k ≡ t → ⊥) → k < 8 → clash m (heldBy 𝓢 (w .slots k)) ≡ false)
-        → Invariant 𝓢 𝓛 (granted 𝓢 w t y m none .1) x
-    granted-keeps n m l clear =
-        record {
-          messages = grown;
-          effects = effects;
-          free = put-cases (λ k ms. (s : ℕ) → (k ≡ s → ⊥) → AllFree 𝓢 𝓛 ms (grown s)) messages t (m ∷ messages t)
-              (λ s ne. rw (put-other messages t (m ∷ messages t) s (λ e. ne (sym e))) (clear-of s (λ e. ne (sym e)), free t s ne))
-              (λ k nt. put-cases (λ s ms. (k ≡ s → ⊥) → AllFree 𝓢 𝓛 (messages k) ms) messages t (m ∷ messages t)
-              (λ ne. all-free-sym 𝓢 𝓛 (m ∷ messages t) (messages k) (clear-of k nt, free t k (λ e. nt (sym e))))
-              (λ s ns ne. free k s ne));
-          made = put-cases (λ k ms. Made 𝓢 𝓛 ms (effects k)) messages t (m ∷ messages t)
-              (all-map _ _ (effects t) (λ e made. (made .0, there (made .1), made .2)) (made t)) (λ k ne. made k);
-          slot = at-or _ t (simp put-same now) (λ k ne. simp (put-other, ne) (inv .slot k));
-          high = still-high _;
-          ok = inv .ok;
-          total = inv .total;
-          good = inv .good;
-        }
-      where
-        grown : ℕ → List Message
-        grown = put messages t (m ∷ messages t)
-
-        free-of : (k : ℕ) (s : Slot 𝓢) → SlotState 𝓢 𝓛 (x .fields) (messages k) (effects k) (x .slots k) s
-            → clash m (heldBy 𝓢 s) ≡ false → All (Free m) (messages k)
-        free-of k closed v c = subst (All (Free m)) (sym (v .0)) tt
-        free-of k (opened z) v c = v .held m c
-
-        clear-of : (k : ℕ) → (k ≡ t → ⊥) → All (Free m) (messages k)
-        clear-of = below-or (λ k. (k ≡ t → ⊥) → All (Free m) (messages k)) 8
-            (λ k low ne. free-of k (w .slots k) (inv .slot k) (clear k ne low))
-            (λ k far ne. subst (All (Free m)) (sym (closed-state 𝓢 𝓛 w x inv k (inv .high k far) .0)) tt)
-
-        now : Open 𝓢 𝓛 (x .fields) (m ∷ messages t) (effects t) (started 𝓢 y m) (x .slots t)
-        now = record {
-          held = λ m′ c. let r = free-lock m′ m (y .locks) c in (r .1, before .held m′ (r .0));
-          far = λ m′ f. before .far m′ (f .1);
-          undoes = before .undoes;
-          right = λ Q a. before .right Q (a .1);
-          activity = record {
-            message = m;
-            among = here refl;
-            of = of-begun m;
-            latest = l;
-            part = λ Q a. subst (Part 𝓢 m (replayed 𝓢 (x .slots t .list) Q) (begun m)) (sym (state none n .same Q (a .1))) start;
-          };
-        }
 
     -- A step has its effect, whatever runs next and whatever the course then holds for the slot.
     pub moved : (m : Message) → In m (messages t) → (e : Effect) → May m e → (r : Option Run) (s : Sends 𝓢)
@@ -236,7 +220,7 @@ module _ (𝓢 : Service) (𝓛 : Laws 𝓢) (w : World 𝓢) (x : Course 𝓢) 
               (λ k nt. put-cases (λ s ms. (k ≡ s → ⊥) → AllFree 𝓢 𝓛 (messages k) ms) messages t []
               (λ ne. all-free-sym 𝓢 𝓛 [] (messages k) tt) (λ s ns ne. free k s ne));
           made = at-or (λ k. Made 𝓢 𝓛 (left k) (others 𝓢 𝓛 w x inv t k)) t (simp put-same tt) (λ k ne. simp (put-other, ne) (made k));
-          slot = at-or _ t (simp put-same (refl, refl)) (λ k ne. simp (put-other, ne) (stands k ne (w .slots k) (inv .slot k)));
+          slot = at-or _ t (simp put-same (refl, refl, refl)) (λ k ne. simp (put-other, ne) (stands k ne (w .slots k) (inv .slot k)));
           high = still-high _;
           ok = ok;
           total = total;

@@ -1,20 +1,21 @@
--- Each call preserves the invariant, being a refusal or one of the transitions; so it holds after every list of calls. From it
--- follow the two claims: commit order where no transaction is open, and what can be observed at each moment.
+-- Each call preserves the invariant, being one of the moves; so it holds after every list of calls. From it follow the two claims:
+-- commit order where no transaction is open, and what can be observed at each moment.
 use Prim.Native.Nat.{ℕ, zero, suc, _<_}
 use native.Mathlib.Omega.{arith}
 use mathlib.Core.Path.{_≡_, refl, sym, ap, _∙_, subst, fun-ext}
 use mathlib.Core.Bool.{Bool, true, false, not, _&&_}
-use mathlib.Core.Option.{Option, none, some}
+use mathlib.Core.Option.{none, some}
 use mathlib.Core.List.{List, [], _∷_}
-use lib.Dec.{T, eqb, ltb, eqb→eq, ltb→lt}
+use lib.Dec.{T, eqb, eqb→eq}
 use Rattle.model.specs.Base.{put, least}
 use Rattle.laws.specs.Basics.{put-same, put-other, least-none, below-or}
-use Rattle.model.specs.Service.{Outcome, goes, ends, stops, Service, Call, begin, send, step, commit, abort, Answer, refuse, Transaction, Slot, closed, opened, World, fresh, inTheWay, granted, sent, stepped, onClosed, onOpen, onSlot, slotOf, inRange, call, Course, startCourse, named, ifDone, fed}
+use Rattle.model.specs.Service.{Service, Call, send, step, commit, abort, Answer, refuse, Slot, closed, opened, World, fresh, started, inTheWay, call, Course, startCourse, named, fed}
 use Rattle.twophase.specs.Claims.{both, putBackSlot, putBackAll, Serial, Moment}
 use Rattle.twophase.specs.Laws.{Laws}
 use Rattle.twophase.specs.Effects.{acts, over, over-same}
 use Rattle.twophase.specs.Invariant.{Invariant, agree-self, closed-state, open-state, back-below}
-use Rattle.twophase.specs.Preserve.{begun-keeps, named-keeps, granted-keeps, goes-keeps, ends-keeps, undone-keeps, committed-keeps}
+use Rattle.twophase.specs.Moves.{Asks, Move, refused, clashes, starts, goes-on, replies, halts, commits, aborts, moves}
+use Rattle.twophase.specs.Preserve.{named-keeps, started-keeps, goes-keeps, ends-keeps, undone-keeps, committed-keeps}
 
 -- For two different slots the test of a clash is that of their locks.
 other-clash : (k s : ℕ) (b : Bool) → (k ≡ s → ⊥) → (not (eqb k s) && b) ≡ false → b ≡ false
@@ -37,70 +38,33 @@ module _ (𝓢 : Service) (𝓛 : Laws 𝓢) where
 
     -- A refused call changes nothing.
     refuse-keeps : (c : Call Request) (n : ℕ) → Keeps c (refuse n, w)
-    refuse-keeps (begin s) n = inv
     refuse-keeps (send s p) n = inv
     refuse-keeps (step s) n = inv
     refuse-keeps (commit s) n = inv
     refuse-keeps (abort s) n = inv
 
-    module _ (s : ℕ) (below : s < 8) (y : Transaction 𝓢) (q : w .slots s ≡ opened y) where
-      -- A message that clashes with no other slot starts, and any other does not.
-      grant-keeps : y .running ≡ none → (m : Message) (k : Option ℕ) → least (inTheWay 𝓢 w s m) 8 ≡ k
-          → Invariant 𝓢 𝓛 (granted 𝓢 w s y m k .1) (ifDone 𝓢 (granted 𝓢 w s y m k .0) x (named 𝓢 x s (some m)))
-      grant-keeps n m (some k) e = inv
-      grant-keeps n m none e =
-          granted-keeps 𝓢 𝓛 w (named 𝓢 x s (some m)) (named-keeps 𝓢 𝓛 w x inv s below y q n m) s below y q n m
-          (ap (λ l. l .latest) (put-same (x .slots) s _))
-          (λ k ne lt. other-clash k s _ ne (least-none (inTheWay 𝓢 w s m) 8 e k lt))
+    -- A send that clashes with no other slot becomes the slot's latest, and starts.
+    send-keeps : (s : ℕ) (q : Request) (m : Message) → Asks 𝓢 w s q m → least (inTheWay 𝓢 w s m) 8 ≡ none
+        → Invariant 𝓢 𝓛 (started 𝓢 w s m) (named 𝓢 x s (some m))
+    send-keeps s q m a e =
+        started-keeps 𝓢 𝓛 w (named 𝓢 x s (some m)) (named-keeps 𝓢 𝓛 w x inv s (a .below) (a .idle) m) s (a .below) (a .idle) m
+        (ap (λ l. l .latest) (put-same (x .slots) s _))
+        (λ k ne lt. other-clash k s _ ne (least-none (inTheWay 𝓢 w s m) 8 e k lt))
 
-      -- A send where no message runs.
-      send-keeps : y .running ≡ none → (p : Request) (f : Option Message) → find p ≡ f → Keeps (send s p) (sent 𝓢 w s y f)
-      send-keeps n p none e = inv
-      send-keeps n p (some m) e =
-          let z : Answer × World 𝓢 = granted 𝓢 w s y m (least (inTheWay 𝓢 w s m) 8) in
-          subst (λ f. Invariant 𝓢 𝓛 (z .1) (ifDone 𝓢 (z .0) x (named 𝓢 x s f))) (sym e) (grant-keeps n m (least (inTheWay 𝓢 w s m) 8) refl)
-
-      -- A step where a message runs.
-      step-keeps : (r : Run) → y .running ≡ some r → (o : Outcome Run Effect) → turn r (w .fields) ≡ o → Keeps (step s) (stepped 𝓢 w s y o)
-      step-keeps r n (goes r′ e) v = goes-keeps 𝓢 𝓛 w x inv s below y q r n r′ e v
-      step-keeps r n (ends a e) v = ends-keeps 𝓢 𝓛 w x inv s below y q r n a e v
-      step-keeps r n stops v = undone-keeps 𝓢 𝓛 w x inv s below y q
-
-    -- A call on a closed slot.
-    closed-keeps : (c : Call Request) → slotOf 𝓢 c < 8 → w .slots (slotOf 𝓢 c) ≡ closed → Keeps c (onClosed 𝓢 w c)
-    closed-keeps (begin s) below q = begun-keeps 𝓢 𝓛 w x inv s below q
-    closed-keeps (send s p) below q = inv
-    closed-keeps (step s) below q = inv
-    closed-keeps (commit s) below q = inv
-    closed-keeps (abort s) below q = inv
-
-    -- A call on an open slot.
-    open-keeps : (c : Call Request) → slotOf 𝓢 c < 8 → (y : Transaction 𝓢) → w .slots (slotOf 𝓢 c) ≡ opened y
-        → (r : Option Run) → y .running ≡ r → Keeps c (onOpen 𝓢 w c y r)
-    open-keeps (begin s) below y q none n = inv
-    open-keeps (begin s) below y q (some r) n = inv
-    open-keeps (send s p) below y q none n = send-keeps s below y q n p (find p) refl
-    open-keeps (send s p) below y q (some r) n = inv
-    open-keeps (step s) below y q none n = inv
-    open-keeps (step s) below y q (some r) n = step-keeps s below y q r n (turn r (w .fields)) refl
-    open-keeps (commit s) below y q none n = committed-keeps 𝓢 𝓛 w x inv s below y q n
-    open-keeps (commit s) below y q (some r) n = inv
-    open-keeps (abort s) below y q none n = undone-keeps 𝓢 𝓛 w x inv s below y q
-    open-keeps (abort s) below y q (some r) n = undone-keeps 𝓢 𝓛 w x inv s below y q
-
-    -- A call on one of the eight slots.
-    slot-keeps : (c : Call Request) → slotOf 𝓢 c < 8 → (z : Slot 𝓢) → w .slots (slotOf 𝓢 c) ≡ z → Keeps c (onSlot 𝓢 w c z)
-    slot-keeps c below closed q = closed-keeps c below q
-    slot-keeps c below (opened y) q = open-keeps c below y q (y .running) refl
-
-    -- A call, by whether its slot is one of the eight.
-    range-keeps : (c : Call Request) (b : Bool) → ltb (slotOf 𝓢 c) 8 ≡ b → Keeps c (inRange 𝓢 w c b)
-    range-keeps c false e = refuse-keeps c 31
-    range-keeps c true e = slot-keeps c (ltb→lt (slotOf 𝓢 c) 8 (subst T (sym e) tt)) (w .slots (slotOf 𝓢 c)) refl
+    -- Every move.
+    move-keeps : {c : Call Request} {y : Answer × World 𝓢} → Move 𝓢 w c y → Keeps c y
+    move-keeps (refused c n g) = refuse-keeps c n
+    move-keeps (clashes s q m k a e) = inv
+    move-keeps (starts s q m a e) = subst (λ f. Invariant 𝓢 𝓛 (started 𝓢 w s m) (named 𝓢 x s f)) (sym (a .found)) (send-keeps s q m a e)
+    move-keeps (goes-on s y r r′ e a v) = goes-keeps 𝓢 𝓛 w x inv s (a .below) y (a .is-open) r (a .runs) r′ e v
+    move-keeps (replies s y r n e a v) = ends-keeps 𝓢 𝓛 w x inv s (a .below) y (a .is-open) r (a .runs) n e v
+    move-keeps (halts s y r a v) = undone-keeps 𝓢 𝓛 w x inv s (a .below) y (a .is-open)
+    move-keeps (commits s y below o n) = committed-keeps 𝓢 𝓛 w x inv s below y o n
+    move-keeps (aborts s y below o) = undone-keeps 𝓢 𝓛 w x inv s below y o
 
     -- Every call.
     call-keeps : (c : Call Request) → Keeps c (call 𝓢 w c)
-    call-keeps c = range-keeps c (ltb (slotOf 𝓢 c) 8) refl
+    call-keeps c = move-keeps (moves 𝓢 w c)
 
     -- ---- consequences of the invariant
 
@@ -147,7 +111,7 @@ module _ (𝓢 : Service) (𝓛 : Laws 𝓢) where
         effects = λ t. [];
         free = λ t k ne. tt;
         made = λ t. tt;
-        slot = λ t. (refl, refl);
+        slot = λ t. (refl, refl, refl);
         high = λ t far. refl;
         ok = ok;
         total = refl;

@@ -61,16 +61,16 @@ pub fn each(one: impl FnMut() -> bool) -> Time {
     both(one, || true).0
 }
 
-/// The times that a program prints, in nanoseconds.
-pub fn of_program(program: &str, word: &str) -> Vec<Time> {
-    let output = Command::new(program).arg(word).output().unwrap_or_else(|e| panic!("{program}: {e}"));
-    assert!(output.status.success(), "{program}: {}", String::from_utf8_lossy(&output.stderr));
+/// The times that a program with its words prints, in nanoseconds.
+fn of_program(words: &[&str]) -> Vec<Time> {
+    let output = Command::new(words[0]).args(&words[1..]).output().unwrap_or_else(|e| panic!("{words:?}: {e}"));
+    assert!(output.status.success(), "{words:?}: {}", String::from_utf8_lossy(&output.stderr));
     String::from_utf8_lossy(&output.stdout).split_whitespace().map(|t| t.parse().expect("a number")).collect()
 }
 
-/// The least of each of the times that programs print, run in turn: a program and its word.
-pub fn of_programs(programs: &[(&str, &str)]) -> Vec<Vec<Time>> {
-    let round = |_| programs.iter().map(|(program, word)| of_program(program, word)).collect::<Vec<_>>();
+/// The least of each of the times that programs print, run in turn, each with its words.
+pub fn of_programs(programs: &[Vec<&str>]) -> Vec<Vec<Time>> {
+    let round = |_| programs.iter().map(|words| of_program(words)).collect::<Vec<_>>();
     let least = |a: Vec<Vec<Time>>, b: Vec<Vec<Time>>| {
         a.into_iter().zip(b).map(|(x, y)| x.into_iter().zip(y).map(|(t, u)| t.min(u)).collect()).collect()
     };

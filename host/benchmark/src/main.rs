@@ -1,8 +1,8 @@
 //! How fast the proved library and the program `rehearse` are: beside the second implementation, both in turn in one run, and, where
-//! the two programs of berkeley.c and transactions.c are named, beside Berkeley DB's lock subsystem. Prints the tables of
-//! docs/PERFORMANCE.md.
-//!   benchmark [BERKELEY TRANSACTIONS]
-//!   benchmark locks BERKELEY TRANSACTIONS   the last of the tables alone
+//! the programs of transactions.c, berkeley.c and sqlite.c are named, beside Berkeley DB's lock subsystem and SQLite. Prints the tables
+//! of docs/PERFORMANCE.md.
+//!   benchmark [TRANSACTIONS BERKELEY SQLITE]
+//!   benchmark peers TRANSACTIONS BERKELEY SQLITE   the last of the tables alone
 //!   benchmark rehearse       the table of `rehearse` alone
 //!   benchmark profile        makes some of each call once, for callgrind
 //!   benchmark transactions   makes 100 transactions of a send to an object, for callgrind
@@ -41,7 +41,7 @@ fn reading(samples: &[(String, Vec<u8>)]) {
     }
 }
 
-/// A transaction of one message: begin, a send to an object, steps to its answer, commit; and how many steps that is.
+/// A transaction of one message: a send to an object, steps to its answer, commit; and how many steps that is.
 fn transaction(text: &[u8], method: u32) -> (usize, (Time, Time)) {
     let library = reference::read(text).unwrap();
     let mut values = library.starting_values();
@@ -50,7 +50,6 @@ fn transaction(text: &[u8], method: u32) -> (usize, (Time, Time)) {
     let mut machine = reference::machine::Machine::start(&library, &values).unwrap();
     let mut steps = 0;
     let ours = || {
-        lent::begin(text, &mut state, &values, 0);
         lent::send(text, &mut state, &values, 0, wrapper::machine::Target::Object(0), method, 3);
         steps = 1;
         while lent::step(text, &mut state, &mut values, 0) == lent::Outcome::Going {
@@ -59,7 +58,6 @@ fn transaction(text: &[u8], method: u32) -> (usize, (Time, Time)) {
         lent::commit(text, &mut state, &values, 0) == lent::Outcome::Done
     };
     let second = || {
-        machine.call(Call::Begin(0));
         machine.call(Call::Send { slot: 0, target: Target::Object(0), method, argument: 3 });
         while machine.call(Call::Step(0)) == reference::machine::Answer::Going {}
         machine.call(Call::Commit(0)) == reference::machine::Answer::Done
@@ -70,7 +68,7 @@ fn transaction(text: &[u8], method: u32) -> (usize, (Time, Time)) {
 
 fn machine(samples: &[(String, Vec<u8>)]) {
     let short = transaction(&samples[0].1, 1);
-    row("begin, send, 2 steps, commit", &samples[0].0, short.1);
+    row("send, 2 steps, commit", &samples[0].0, short.1);
     for (name, text) in texts::messages() {
         let (steps, (ours, second)) = transaction(&text, 0);
         row(&format!("one of {steps} steps"), &name, (ours / steps as f64, second / steps as f64));
@@ -80,8 +78,8 @@ fn machine(samples: &[(String, Vec<u8>)]) {
 /// A method with an empty body.
 const EMPTY: &[u8] = b"class a\nmethod m\nend\nobject o a\n";
 
-/// Berkeley DB's ways, and what each is.
-const WAYS: [(&str, &str); 5] = [
+/// The ways to open Berkeley DB, and what each is.
+const BERKELEY: [(&str, &str); 5] = [
     ("plain", "one thread, one locker that is kept"),
     ("lockers", "one thread, a locker for each transaction"),
     ("threads", "several threads, one locker that is kept"),
@@ -89,20 +87,38 @@ const WAYS: [(&str, &str); 5] = [
     ("processes", "several processes, a locker for each transaction"),
 ];
 
-/// The two locks of a send to an object and their release, beside Berkeley DB's lock subsystem: two programs in C, in turn.
-fn locks(berkeley: &str, transactions: &str) {
-    let mut programs = vec![(transactions, "alone"), (transactions, "threads")];
-    programs.extend(WAYS.map(|(word, _)| (berkeley, word)));
+/// The ways to open SQLite.
+const SQLITE: [(&str, &str); 2] = [
+    ("plain", "one thread, memory not counted"),
+    ("service", "several threads, memory counted: no settings"),
+];
+
+const LANES: &str = concat!(env!("CARGO_MANIFEST_DIR"), "/../../samples/lanes.txt");
+
+/// The table of another program's ways, beside our time of the same: alone, and with a mutex.
+fn beside(head: &str, ways: &[(&str, &str)], times: &[Vec<Time>], ours: (Time, Time)) {
+    println!("\n| {head} alone | with a mutex |\n|---|---|---|---|");
+    for ((_, what), t) in ways.iter().zip(times) {
+        println!("| {what} | {:.0} ns | {:.1} | {:.1} |", t[0], t[0] / ours.0, t[0] / ours.1);
+    }
+}
+
+/// The two locks of a send to an object and their release, beside Berkeley DB's lock subsystem; a whole transaction beside SQLite's.
+/// Programs in C, in turn.
+fn peers(transactions: &str, berkeley: &str, sqlite: &str) {
+    let mut programs = vec![vec![transactions, "alone", LANES], vec![transactions, "threads", LANES]];
+    programs.extend(BERKELEY.map(|(word, _)| vec![berkeley, word]));
+    programs.extend(SQLITE.map(|(word, _)| vec![sqlite, word]));
     let times = clock::of_programs(&programs);
+    let (alone, locked, peers) = (&times[0], &times[1], &times[2..]);
     let both = |t: &[Time]| t[0] + t[1];
-    println!("\n| ours | send | commit | both | begin, send, step, commit |\n|---|---|---|---|---|");
-    for (what, t) in [("the calls alone", &times[0]), ("each call between a mutex's lock and unlock", &times[1])] {
-        println!("| {what} | {:.1} ns | {:.1} ns | {:.1} ns | {:.1} ns |", t[0], t[1], both(t), t[2]);
+    println!("\n| ours | send | commit | both | send, step, commit | tune: send, 2 steps, commit |\n|---|---|---|---|---|---|");
+    for (what, t) in [("the calls alone", alone), ("each call between a mutex's lock and unlock", locked)] {
+        println!("| {what} | {:.1} ns | {:.1} ns | {:.1} ns | {:.1} ns | {:.1} ns |", t[0], t[1], both(t), t[2], t[3]);
     }
-    println!("\n| Berkeley DB | time | times send and commit alone | with a mutex |\n|---|---|---|---|");
-    for ((_, what), t) in WAYS.iter().zip(&times[2..]) {
-        println!("| {what} | {:.0} ns | {:.1} | {:.1} |", t[0], t[0] / both(&times[0]), t[0] / both(&times[1]));
-    }
+    let (of_berkeley, of_sqlite) = peers.split_at(BERKELEY.len());
+    beside("Berkeley DB | time | times send and commit", &BERKELEY, of_berkeley, (both(alone), both(locked)));
+    beside("SQLite | begin, update, commit | times tune", &SQLITE, of_sqlite, (alone[3], locked[3]));
 }
 
 /// How the ratio of compile is spread over generated texts of 20 to 32 KiB.
@@ -143,7 +159,6 @@ fn transactions(text: &[u8]) {
     let mut values = reference::read(text).unwrap().starting_values();
     let mut machine = wrapper::machine::Machine::start(text, &mut values).unwrap();
     for _ in 0..100 {
-        machine.begin(0).unwrap();
         machine.send(0, wrapper::machine::Target::Object(0), 0, 3).unwrap();
         while machine.step(0) == Ok(wrapper::machine::Step::Going) {}
         machine.commit(0).unwrap();
@@ -156,7 +171,7 @@ fn main() {
     match words[..] {
         ["profile"] => return profile(),
         ["transactions"] => return transactions(EMPTY),
-        ["locks", berkeley, transactions] => return locks(berkeley, transactions),
+        ["peers", transactions, berkeley, sqlite] => return peers(transactions, berkeley, sqlite),
         ["rehearse"] => return rehearsal::table(),
         _ => {}
     }
@@ -167,7 +182,7 @@ fn main() {
     spread();
     growth();
     rehearsal::table();
-    if let [berkeley, transactions] = words[..] {
-        locks(berkeley, transactions);
+    if let [transactions, berkeley, sqlite] = words[..] {
+        peers(transactions, berkeley, sqlite);
     }
 }

@@ -1,5 +1,5 @@
-//! Calls that are lent something other than start and the calls left: each ends, answers a number of the header or goes on,
-//! and alters nothing but its slot's row and the values.
+//! Calls with a look at all memory after each, also where it is something other than start and the calls left: each call ends, answers
+//! a number of the header or goes on, and alters nothing but its slot's row and the values.
 
 use crate::guard::Guarded;
 use crate::library::{answer, target, GUARD};
@@ -73,7 +73,6 @@ impl Memory {
     pub fn call(&mut self, call: Call) -> Answer {
         let (text, state, values) = (self.text.contents(), self.state.lent(), self.values.lent());
         let (slot, outcome) = match call {
-            Call::Begin(slot) => (slot, lent::begin(text, state, values, slot)),
             Call::Send { slot, target: to, method, argument } => (slot, lent::send(text, state, values, slot, target(to), method, argument)),
             Call::Step(slot) => (slot, lent::step(text, state, values, slot)),
             Call::Commit(slot) => (slot, lent::commit(text, state, values, slot)),

@@ -56,10 +56,6 @@ impl Lent {
 }
 
 impl Machine for Lent {
-    fn begin(&mut self, slot: u32) -> Answer {
-        answer(lent::begin(self.text.contents(), self.state.lent(), self.values.contents(), slot))
-    }
-
     fn send(&mut self, slot: u32, to: Target, method: u32, argument: u32) -> Answer {
         answer(lent::send(self.text.contents(), self.state.lent(), self.values.contents(), slot, target(to), method, argument))
     }
@@ -87,7 +83,6 @@ fn refused(refusal: Refusal) -> Answer {
     Answer::Refused(match refusal {
         Refusal::NoSuchSlot => 31,
         Refusal::NotOpen => 32,
-        Refusal::Open => 33,
         Refusal::Running => 34,
         Refusal::NotRunning => 35,
         Refusal::NothingThere => 36,
@@ -99,10 +94,6 @@ fn done(result: Result<(), Refusal>) -> Answer {
 }
 
 impl Machine for wrapper::machine::Machine<'_> {
-    fn begin(&mut self, slot: u32) -> Answer {
-        done(self.begin(slot))
-    }
-
     fn send(&mut self, slot: u32, to: Target, method: u32, argument: u32) -> Answer {
         match self.send(slot, target(to), method, argument) {
             Ok(Sent::Granted) => Answer::Done,

@@ -9,7 +9,6 @@ use std::collections::BTreeMap;
 
 /// A machine after its start.
 pub trait Machine {
-    fn begin(&mut self, slot: u32) -> Answer;
     fn send(&mut self, slot: u32, target: Target, method: u32, argument: u32) -> Answer;
     fn step(&mut self, slot: u32) -> Answer;
     fn commit(&mut self, slot: u32) -> Answer;
@@ -19,10 +18,6 @@ pub trait Machine {
 }
 
 impl Machine for reference::machine::Machine<'_> {
-    fn begin(&mut self, slot: u32) -> Answer {
-        self.call(Call::Begin(slot))
-    }
-
     fn send(&mut self, slot: u32, target: Target, method: u32, argument: u32) -> Answer {
         self.call(Call::Send { slot, target, method, argument })
     }
@@ -47,7 +42,6 @@ impl Machine for reference::machine::Machine<'_> {
 /// Makes a call.
 pub fn make(machine: &mut dyn Machine, call: Call) -> Answer {
     match call {
-        Call::Begin(slot) => machine.begin(slot),
         Call::Send { slot, target, method, argument } => machine.send(slot, target, method, argument),
         Call::Step(slot) => machine.step(slot),
         Call::Commit(slot) => machine.commit(slot),
@@ -55,7 +49,8 @@ pub fn make(machine: &mut dyn Machine, call: Call) -> Answer {
     }
 }
 
-/// How often each call was answered in which way (`send 40`, `step answer`), and how often values were put back.
+/// How often each call was answered in which way (`step answer`, `send 40`, and on a closed slot `first send 40`), and how often
+/// values were put back.
 pub type Counts = BTreeMap<String, u64>;
 
 /// A list in the making, on both machines and on the course.
@@ -90,6 +85,7 @@ impl<'a> List<'a> {
 
     /// One call on both.
     pub fn call(&mut self, call: Call) -> Answer {
+        let first = matches!(call, Call::Send { slot, .. } if slot < 8 && !self.second.is_open(slot));
         let right = self.second.call(call);
         let answer = make(self.machine, call);
         self.made.push((call, answer));
@@ -98,14 +94,14 @@ impl<'a> List<'a> {
         assert_eq!(fields, self.right_fields(), "the fields after {call:?}, which answered {answer:?}");
         self.course.feed(call, answer);
         let put_back = fields != self.fields && !matches!(answer, Answer::Going | Answer::Answer(_));
-        self.count(call, answer, put_back);
+        self.count(call, first, answer, put_back);
         self.fields = fields;
         answer
     }
 
-    fn count(&mut self, call: Call, answer: Answer, put_back: bool) {
+    fn count(&mut self, call: Call, first: bool, answer: Answer, put_back: bool) {
         let name = match call {
-            Call::Begin(_) => "begin",
+            Call::Send { .. } if first => "first send",
             Call::Send { .. } => "send",
             Call::Step(_) => "step",
             Call::Commit(_) => "commit",
@@ -130,8 +126,13 @@ impl<'a> List<'a> {
     }
 
     /// As many generated calls.
-    pub fn generated(mut self, random: &mut Random, calls: usize) -> Counts {
-        let mut caller = Caller::new(random, self.library);
+    pub fn generated(self, random: &mut Random, calls: usize) -> Counts {
+        let caller = Caller::new(random, self.library);
+        self.made_by(caller, random, calls)
+    }
+
+    /// As many calls of this caller.
+    pub fn made_by(mut self, mut caller: Caller, random: &mut Random, calls: usize) -> Counts {
         for _ in 0..calls {
             let call = caller.next(random, self.library);
             let answer = self.call(call);

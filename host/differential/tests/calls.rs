@@ -62,7 +62,6 @@ fn steps_on_an_object() {
     for steps in 1_021..=1_025 {
         for (target, objects) in [(Target::Object(0), 1), (Target::Class(0), 2), (Target::Domain(0), 3), (Target::Domain(1), 1)] {
             beside(&limits::message_of(steps), &[1, 2, 3, 4, 5, 6], &mut Random::new(3), |mut list, _| {
-                list.call(Call::Begin(7));
                 assert_eq!(list.call(Call::Send { slot: 7, target, method: 0, argument: 0 }), Answer::Done);
                 let (going, last) = run(&mut list, 7);
                 let all = if steps <= 1_024 { (steps as u32 * objects - 1, Answer::Answer(0)) } else { (1_023, Answer::Stopped) };
@@ -78,7 +77,6 @@ fn steps_on_an_object() {
 fn activations_at_once() {
     for (count, last) in [(8, Answer::Answer(7 + 9)), (9, Answer::Stopped)] {
         beside(&limits::activations(count), &[0, 0], &mut Random::new(4), |mut list, _| {
-            list.call(Call::Begin(0));
             list.call(Call::Send { slot: 0, target: Target::Object(1), method: 0, argument: 9 });
             assert_eq!(run(&mut list, 0).1, last, "{count} activations");
             list.end()
@@ -86,7 +84,7 @@ fn activations_at_once() {
     }
 }
 
-/// A send to a target of no kind is 36, after 31, 32 and 34.
+/// A send to a target of no kind is 36, after 31 and 34.
 #[test]
 fn kinds_above_2() {
     let (text, values) = (limits::activations(3), [1, 2]);
@@ -95,8 +93,6 @@ fn kinds_above_2() {
     let send = |state: &mut [u32], slot: u32, kind: u32| lent::send_to(&text, state, &values, slot, kind, 0, 0, 0);
     for kind in [3, 4, 255, 256, 65_536, 1 << 31, u32::MAX] {
         assert_eq!(send(&mut state, 8, kind), Outcome::Refused(31));
-        assert_eq!(send(&mut state, 7, kind), Outcome::Refused(32));
-        lent::begin(&text, &mut state, &values, 7);
         assert_eq!(send(&mut state, 7, kind), Outcome::Refused(36));
         assert_eq!(send(&mut state, 7, kind % 3), Outcome::Done);
         assert_eq!(send(&mut state, 7, kind), Outcome::Refused(34));
@@ -142,11 +138,11 @@ fn generated_lists() {
         return;
     }
     let has = |counts: &Counts, kind: &str| counts.get(kind).copied().unwrap_or(0);
-    for kind in ["send ok", "send 40", "step 41", "step answer", "commit ok", "abort ok", "put back"] {
+    for kind in ["first send ok", "first send 40", "send ok", "send 40", "step 41", "step answer", "commit ok", "abort ok", "put back"] {
         assert!(has(&calls, kind) * 100 >= all, "{kind} is rare: {calls:?}");
         assert!(has(&lists, kind) * 3 >= count, "{kind} is in few lists: {lists:?}");
     }
-    for kind in ["begin 31", "begin 33", "send 31", "send 32", "send 34", "send 36", "step 31", "step 32", "step 35"] {
+    for kind in ["first send 36", "send 31", "send 34", "send 36", "step 31", "step 32", "step 35"] {
         assert!(has(&lists, kind) * 20 >= count, "{kind} is in few lists: {lists:?}");
     }
     for kind in ["commit 31", "commit 32", "commit 34", "abort 31", "abort 32"] {

@@ -17,7 +17,7 @@ _Static_assert(CISHMOLAQ_LONGEST_TABLES == LONGEST_TABLES, "the lines'");
 
 static uint32_t state[CISHMOLAQ_STATE_WORDS];
 
-/* Two slots on one object: a clash, a message to its answer, an abort. */
+/* Two slots on one object: a clash that leaves a slot closed, a message to its answer, an abort. */
 static void machine(void) {
     uint32_t values[2] = {7, 0};
     uint32_t detail = 99;
@@ -26,18 +26,18 @@ static void machine(void) {
     printf("start %u %zu\n", number, line);
     number = cishmolaq_start(TEXT(good), values, 2, state, CISHMOLAQ_STATE_WORDS, &line);
     printf("start %u %zu\n", number, line);
-    number = cishmolaq_begin(LENT, 3, &detail);
-    printf("begin %u %u\n", number, detail);
-    number = cishmolaq_begin(LENT, 5, &detail);
-    printf("begin %u %u\n", number, detail);
-    number = cishmolaq_begin(LENT, 8, &detail);
-    printf("begin %u %u\n", number, detail);
+    number = cishmolaq_send(LENT, 8, CISHMOLAQ_OBJECT, 0, 0, 1, &detail);
+    printf("send %u %u\n", number, detail);
     number = cishmolaq_send(LENT, 3, CISHMOLAQ_OBJECT, 0, 0, 1, &detail);
     printf("send %u %u\n", number, detail);
     number = cishmolaq_send(LENT, 5, CISHMOLAQ_DOMAIN, 0, 0, 1, &detail);
     printf("send %u %u\n", number, detail);
+    number = cishmolaq_step(LENT, 5, &detail);
+    printf("step %u %u: %u %u\n", number, detail, values[0], values[1]);
     number = cishmolaq_send(LENT, 5, 3, 0, 0, 1, &detail);
     printf("send %u %u\n", number, detail);
+    number = cishmolaq_commit(LENT, 5, &detail);
+    printf("commit %u %u\n", number, detail);
     number = cishmolaq_send(LENT, 5, CISHMOLAQ_CLASS, 0, 1, 1, &detail);
     printf("send %u %u\n", number, detail);
     do {
@@ -46,8 +46,10 @@ static void machine(void) {
     } while (number == 1);
     number = cishmolaq_commit(LENT, 5, &detail);
     printf("commit %u %u\n", number, detail);
-    number = cishmolaq_abort(LENT, 3, &detail);
-    printf("abort %u %u: %u %u\n", number, detail, values[0], values[1]);
+    for (int twice = 0; twice < 2; twice++) {
+        number = cishmolaq_abort(LENT, 3, &detail);
+        printf("abort %u %u: %u %u\n", number, detail, values[0], values[1]);
+    }
 }
 
 int main(void) {

@@ -19,17 +19,18 @@ run plot NR yy
 tables 21 0
 start 22 0
 start 0 0
-begin 0 0
-begin 0 0
-begin 31 0
+send 31 0
 send 0 0
 send 40 3
+step 32 0: 7 0
 send 36 0
+commit 32 0
 send 0 0
 step 1 0: 8 0
 step 2 0: 8 0
 commit 34 0
 abort 0 0: 7 0
+abort 32 0: 7 0
 ";
 
 fn run(command: &mut Command) -> String {
@@ -64,7 +65,6 @@ fn in_96_kib_of_stack() {
             assert!(wrapper::statement_fault(&text, 0).is_ok() && !wrapper::statement(&text, 0).is_empty());
             assert!(wrapper::print_tables(&text, &mut lines).is_ok() && wrapper::starting_values(&text, &mut values).is_ok());
             let mut machine = Machine::start(&text, &mut values).unwrap();
-            machine.begin(0).unwrap();
             machine.send(0, Target::Domain(0), 0, 1).unwrap();
             while machine.step(0) == Ok(Step::Going) {}
             let _ = machine.abort(0);

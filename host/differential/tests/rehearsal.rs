@@ -41,59 +41,57 @@ fn vectors() {
         let (text, calls) = (stored::bytes_if_any(n, "txt"), stored::bytes(n, "calls"));
         let lib = text.as_ref().map_or(Lib::Missing, |text| Lib::Text(text));
         for parts in [vec![&calls[..]], in_parts(&mut Random::new(n), &calls)] {
-            compare(&printed_in_parts(lib, parts), &stored::printed(n), text.as_deref().unwrap_or_default(), &calls);
+            compare(&printed_in_parts(lib, parts), &stored::bytes(n, "out"), text.as_deref().unwrap_or_default(), &calls);
         }
     });
 }
 
 /// Lines on the sample, each with what must be printed for it: slots, the form of a line, names.
 const FORMS: &[(&str, &str)] = &[
-    ("begin 0", "ok"),
-    ("begin 0", "33"),
-    ("begin 7", "ok"),
-    ("begin 8", "31"),
-    ("begin 4294967295", "31"),
-    ("begin 4294967296", "51"),
-    ("begin 99999999999999999999", "51"),
-    ("begin 00", "51"),
-    ("begin 01", "51"),
-    ("begin -1", "51"),
-    ("begin +1", "51"),
-    ("begin 1x", "51"),
-    ("begin x", "51"),
-    ("step 0", "35"),
-    ("step 1", "32"),
+    ("step 0", "32"),
+    ("step 7", "32"),
     ("step 8", "31"),
-    ("commit 1", "32"),
+    ("step 4294967295", "31"),
+    ("step 4294967296", "51"),
+    ("step 99999999999999999999", "51"),
+    ("step 00", "51"),
+    ("step 01", "51"),
+    ("step -1", "51"),
+    ("step +1", "51"),
+    ("step 1x", "51"),
+    ("step x", "51"),
+    ("commit 0", "32"),
     ("commit 8", "31"),
-    ("commit 7", "ok"),
     ("abort 7", "32"),
     ("abort 8", "31"),
-    ("begin 7", "ok"),
-    ("abort 7", "ok"),
     ("", "51"),
     (" ", "51"),
-    ("begin", "51"),
-    ("begin ", "51"),
-    ("begin 1 ", "51"),
-    (" begin 1", "51"),
-    ("begin  1", "51"),
-    ("begin 1 1", "51"),
-    ("begin1", "51"),
-    ("begins 1", "51"),
-    ("begi 1", "51"),
-    ("BEGIN 1", "51"),
+    ("step", "51"),
+    ("step ", "51"),
+    ("step 1 ", "51"),
+    (" step 1", "51"),
+    ("step  1", "51"),
+    ("step 1 1", "51"),
+    ("step1", "51"),
+    ("steps 1", "51"),
+    ("ste 1", "51"),
+    ("STEP 1", "51"),
     ("start 1", "51"),
-    ("begin\t1", "51"),
-    ("begin 1\r", "51"),
-    ("begin 1\0", "51"),
+    ("open 1", "51"),
+    ("step\t1", "51"),
+    ("step 1\r", "51"),
+    ("step 1\0", "51"),
     ("\0", "51"),
-    ("begin 1\u{e9}", "51"),
-    ("step  0", "51"),
+    ("step 1\u{e9}", "51"),
+    ("commit", "51"),
+    ("commit  0", "51"),
     ("commit 0 ", "51"),
+    ("commit 00", "51"),
+    ("abort", "51"),
     (" abort 0", "51"),
+    ("abort 0 0", "51"),
+    ("abort 4294967296", "51"),
     ("send 8 nobody shot 1", "31"),
-    ("send 1 nobody shot 1", "32"),
     ("send 0 nobody shot 1", "36"),
     ("send 0 lane1 nobody 1", "36"),
     ("send 0 lane1 lane1 1", "36"),
@@ -122,7 +120,7 @@ const FORMS: &[(&str, &str)] = &[
     ("send 0  shot 1", "51"),
     ("send lane1 0 shot 1", "51"),
     ("some 0 lane1 shot 1", "51"),
-    ("begin 0 lane1 shot 1", "51"),
+    ("step 0 lane1 shot 1", "51"),
     ("send 0 lane1 shot arg", "51"),
     ("send 0 lane1 shot 01", "51"),
     ("send 0 lane1 shot 4294967296", "51"),
@@ -130,6 +128,7 @@ const FORMS: &[(&str, &str)] = &[
     ("send 4294967296 lane1 shot 1", "51"),
     ("tree 4294967295 abcdefghijklmnop abcdefghijklmnop 4294967295", "31"),
     ("tree 4294967295 abcdefghijklmnop abcdefghijklmnop 42949672950", "51"),
+    ("step 0", "32"),
 ];
 
 /// The machine's answers, with odd lines while messages run.
@@ -138,12 +137,15 @@ const ANSWERS: &[(&str, &str)] = &[
     ("send 0 nobody shot 1", "34"),
     ("send 0 lane1 shot 01", "51"),
     ("commit 0", "34"),
-    ("begin 3", "ok"),
     ("send 3 lane1 tune 5", "40 0"),
+    ("step 3", "32"),
     ("all 3 lane tune 5", "40 0"),
+    ("commit 3", "32"),
     ("tree 3 run shot 5", "40 0"),
     ("send 3 lane1 nobody 5", "36"),
+    ("abort 3", "32"),
     ("tree 3 run plot 5", "ok"),
+    ("send 3 lane1 tune 5", "34"),
     ("step 3", "going"),
     ("step 0", "going"),
     ("step 3", "answer 0"),
@@ -156,7 +158,6 @@ const ANSWERS: &[(&str, &str)] = &[
     ("commit 0", "ok"),
     ("send 3 lane1 tune 2", "ok"),
     ("step 3", "going"),
-    ("begin 5", "ok"),
     ("all 5 run shot 1", "ok"),
     ("step 5", "answer 0"),
 ];
@@ -169,10 +170,10 @@ fn lines() -> Vec<(Vec<u8>, &'static str)> {
         lines.push((format!("send 0 {word} shot 1").into_bytes(), "51"));
         lines.push((format!("all 0 lane {word} 1").into_bytes(), "51"));
     }
-    for line in [&b"\xff"[..], b"begin 1\xff", b"\x80egin 1", b"send 0 lane\xc3 shot 1"] {
+    for line in [&b"\xff"[..], b"step 1\xff", b"\x80tep 1", b"send 0 lane\xc3 shot 1"] {
         lines.push((line.to_vec(), "51"));
     }
-    for (front, byte) in [("step 0", b' '), ("step 0", b'0'), ("", b'x'), ("begin 1 ", b'1'), ("", b' '), ("send 0 lane1 shot ", b'0')] {
+    for (front, byte) in [("step 0", b' '), ("step 0", b'0'), ("", b'x'), ("step 1 ", b'1'), ("", b' '), ("send 0 lane1 shot ", b'0')] {
         for size in [50, 60, 70, 128, 256, 4_096, 65_536, 100_000] {
             lines.push(([front.as_bytes(), &vec![byte; size]].concat(), "51"));
         }
@@ -194,20 +195,20 @@ fn every_form() {
 /// Each line without an LF, as the last of the input.
 #[test]
 fn last_lines_without_lf() {
-    let last = ["b", "begin 0", "begin 1", "step 0", "commit 0", "abort 0", " ", "\r", "\0", "send 0 lane1 shot 1"];
+    let last = ["s", "step 0", "step 1", "commit 0", "abort 0", " ", "\r", "\0", "send 0 lane1 shot 1", "send 1 lane1 plot 1"];
     for line in last {
-        let calls = format!("begin 0\nsend 0 lane1 tune 5\nstep 0\n{line}");
-        compare(&printed(Lib::Text(SAMPLE), calls.as_bytes()), b"ok\nok\ngoing\n51\nlane1 0 0 5\n", SAMPLE, calls.as_bytes());
+        let calls = format!("send 0 lane1 tune 5\nstep 0\n{line}");
+        compare(&printed(Lib::Text(SAMPLE), calls.as_bytes()), b"ok\ngoing\n51\nlane1 0 0 5\n", SAMPLE, calls.as_bytes());
     }
     assert_eq!(printed(Lib::Text(SAMPLE), &[b'x'; 100_000]), b"51\nlane1 0 0 0\n");
-    assert_eq!(printed(Lib::Text(SAMPLE), b"begin 0"), b"51\nlane1 0 0 0\n");
+    assert_eq!(printed(Lib::Text(SAMPLE), b"send 0 lane1 tune 5"), b"51\nlane1 0 0 0\n");
     assert_eq!(printed(Lib::Text(SAMPLE), b""), b"lane1 0 0 0\n");
 }
 
 #[test]
 fn kinds_of_lib() {
-    let calls = b"begin 0\nsend 0 lane1 shot 40\nall 0 lane shot 40\nstep 0\n\nabort 0\n";
-    let answers = "ok\n36\n36\n35\n51\nok\n";
+    let calls = b"send 0 lane1 shot 40\nall 0 lane shot 40\nstep 0\n\nabort 0\n";
+    let answers = "36\n36\n32\n51\n32\n";
     let past = of_length(32_769);
     let long = [SAMPLE.to_vec(), b"object lane2 lane\n".repeat(60_000)].concat();
     // What is printed for the calls, and what after them.
@@ -229,17 +230,17 @@ fn kinds_of_lib() {
         assert_eq!(shown(&printed(lib, b"")), last);
     }
     let whole = of_length(32_768);
-    let calls = b"begin 0\nall 0 a m0 3\nstep 0\nstep 0\n";
+    let calls = b"all 0 a m0 3\nstep 0\nstep 0\n";
     compare(&printed(Lib::Text(&whole), calls), rehearsed(&whole, calls).as_bytes(), &whole, calls);
     // A refused text: whatever the calls, they are not run.
-    assert_eq!(printed(Lib::Text(b"end\n"), &b"begin 0\n".repeat(50_000)), b"refused 12 1\n");
+    assert_eq!(printed(Lib::Text(b"end\n"), &b"step 0\n".repeat(50_000)), b"refused 12 1\n");
 }
 
 /// Each line is answered before the next is written, and lines that come together are answered together.
 #[test]
 fn answers_as_it_goes() {
-    let calls = ["begin 0", "send 0 lane1 tune 5", "step 0", "nonsense", "step 0", "commit 0"];
-    let right = ["ok\n", "ok\n", "going\n", "51\n", "answer 0\n", "ok\n"];
+    let calls = ["send 0 lane1 tune 5", "step 0", "nonsense", "step 0", "commit 0"];
+    let right = ["ok\n", "going\n", "51\n", "answer 0\n", "ok\n"];
     let mut run = Run::start(Lib::Text(SAMPLE));
     for (line, right) in calls.iter().zip(right) {
         run.write(format!("{line}\n").as_bytes());
@@ -248,12 +249,12 @@ fn answers_as_it_goes() {
     assert_eq!(run.end(), (right.concat() + "lane1 0 0 5\n").as_bytes());
 
     let mut run = Run::start(Lib::Text(SAMPLE));
-    run.write(b"begin 0\nbegin 8\nbeg");
+    run.write(b"send 0 lane1 tune 5\nstep 8\nste");
     assert_eq!([run.line(), run.line()], ["ok\n", "31\n"]);
-    run.write(b"in 0");
-    run.write(b"\nste");
-    assert_eq!(run.line(), "33\n");
-    assert_eq!(run.end(), b"ok\n31\n33\n51\nlane1 0 0 0\n");
+    run.write(b"p 0");
+    run.write(b"\ncom");
+    assert_eq!(run.line(), "going\n");
+    assert_eq!(run.end(), b"ok\n31\ngoing\n51\nlane1 0 0 5\n");
 }
 
 /// The input cut at a few places, some of them next to an LF.
@@ -272,8 +273,8 @@ fn in_parts<'a>(random: &mut Random, calls: &'a [u8]) -> Vec<&'a [u8]> {
 fn every_cut_in_two() {
     // The longest line that is a call, and one that is longer by a digit.
     let long = "tree 4294967295 abcdefghijklmnop abcdefghijklmnop 4294967295";
-    let calls = format!("begin 0\nsend 0 lane1 shot 40\nbegin 1\n\nstep 0\n{long}\n{long}0\nsend 1 lane1 tune 5\nstep 0 \nstep 1\nstep 0");
-    let right = "ok\nok\nok\n51\ngoing\n31\n51\n40 0\n51\n35\n51\nlane1 0 0 0\n";
+    let calls = format!("send 0 lane1 shot 40\n\nstep 0\n{long}\n{long}0\nsend 1 lane1 tune 5\nstep 0 \nstep 1\nstep 0");
+    let right = "ok\n51\ngoing\n31\n51\n40 0\n51\n32\n51\nlane1 0 0 0\n";
     each_seed(calls.len() as u64 + 1, |cut| {
         let (front, back) = calls.as_bytes().split_at(cut as usize);
         compare(&printed_in_parts(Lib::Text(SAMPLE), [front, back]), right.as_bytes(), SAMPLE, calls.as_bytes());
@@ -302,7 +303,7 @@ fn byte_by_byte() {
 /// 16 megabytes of lines, and of one line, take no more memory than the first of them. (The kernel's count of pages is not exact.)
 #[test]
 fn memory_does_not_grow() {
-    let lines = b"begin 0\nsend 0 lane1 shot 40\nstep 0\nnonsense\nabort 0\n".repeat(2_000);
+    let lines = b"send 0 lane1 shot 40\nstep 0\nnonsense\nabort 0\n".repeat(2_300);
     let line = [b'x'; 100_000];
     let mut run = Run::start(Lib::Text(SAMPLE));
     run.write(&line);
@@ -342,7 +343,7 @@ fn generated_lists() {
     if count < 300 {
         return;
     }
-    for word in ["ok", "going", "answer", "31", "32", "33", "34", "35", "36", "40", "41", "51"] {
+    for word in ["ok", "going", "answer", "31", "32", "34", "35", "36", "40", "41", "51"] {
         assert!(answers.get(word).copied().unwrap_or(0) >= count / 2, "{word} is rare: {answers:?}");
     }
 }

@@ -1,4 +1,5 @@
-//! The comparison sees machines that are wrong: each fault that document 01's reviewer tries, put around the second implementation.
+//! The comparison sees machines that are wrong: each fault that a reviewer of documents 01 and 02 tries, put around the second
+//! implementation.
 
 use differential::machine::{List, Machine};
 use generate::calls::{text_to_call, values_for};
@@ -16,7 +17,9 @@ enum Fault {
     CommitUndoes,
     AbortCommits,
     HeldByTheWrongSlot,
-    OpenSlotOpenedAgain,
+    FirstSendRefused,
+    GrantedSendLeavesClosed,
+    RefusedSendOpens,
 }
 
 struct Faulty<'a> {
@@ -26,28 +29,33 @@ struct Faulty<'a> {
     /// Steps made, and an answer that is kept back, by slot.
     steps: [u32; 8],
     kept: [Option<Answer>; 8],
+    /// Open because of a send that was not granted.
+    opened: [bool; 8],
 }
 
 impl Machine for Faulty<'_> {
-    fn begin(&mut self, slot: u32) -> Answer {
-        match Machine::begin(&mut self.machine, slot) {
-            Answer::Refused(33) if self.fault == Fault::OpenSlotOpenedAgain => Answer::Done,
-            answer => answer,
-        }
-    }
-
     fn send(&mut self, slot: u32, target: Target, method: u32, argument: u32) -> Answer {
-        if self.fault == Fault::EverySendHeld {
-            return Answer::Held(0);
+        let first = slot < 8 && !self.machine.is_open(slot);
+        match self.fault {
+            Fault::EverySendHeld => return Answer::Held(0),
+            Fault::FirstSendRefused if first => return Answer::Refused(32),
+            _ => {}
         }
-        match Machine::send(&mut self.machine, slot, target, method, argument) {
-            Answer::Held(by) if self.fault == Fault::HeldByTheWrongSlot => Answer::Held((by + 1) % 8),
-            answer => answer,
+        let answer = Machine::send(&mut self.machine, slot, target, method, argument);
+        match (self.fault, answer) {
+            (Fault::HeldByTheWrongSlot, Answer::Held(by)) => return Answer::Held((by + 1) % 8),
+            (Fault::GrantedSendLeavesClosed, Answer::Done) if first => drop(Machine::abort(&mut self.machine, slot)),
+            (Fault::RefusedSendOpens, answer) if first => self.opened[slot as usize] = answer != Answer::Done,
+            _ => {}
         }
+        answer
     }
 
     fn step(&mut self, slot: u32) -> Answer {
         let answer = Machine::step(&mut self.machine, slot);
+        if answer == Answer::Refused(32) && self.opened[slot as usize] {
+            return Answer::Refused(35);
+        }
         if !matches!(answer, Answer::Going | Answer::Answer(_)) {
             return answer;
         }
@@ -92,7 +100,7 @@ fn seen(fault: Fault) -> usize {
         let library = reference::read(&text_to_call(&mut random)).unwrap();
         let values = values_for(&mut random, &library);
         let machine = reference::machine::Machine::start(&library, &values).unwrap();
-        let mut faulty = Faulty { machine, fault, start: values.clone(), steps: [0; 8], kept: [None; 8] };
+        let mut faulty = Faulty { machine, fault, start: values.clone(), steps: [0; 8], kept: [None; 8], opened: [false; 8] };
         let list = std::panic::AssertUnwindSafe(|| List::new(&library, &values, &mut faulty).generated(&mut random, 300));
         std::panic::catch_unwind(list).is_err()
     }).count()
@@ -110,7 +118,9 @@ fn faults_are_seen() {
         Fault::CommitUndoes,
         Fault::AbortCommits,
         Fault::HeldByTheWrongSlot,
-        Fault::OpenSlotOpenedAgain,
+        Fault::FirstSendRefused,
+        Fault::GrantedSendLeavesClosed,
+        Fault::RefusedSendOpens,
     ];
     let none = seen(Fault::None);
     let counts: Vec<(Fault, usize)> = faults.into_iter().map(|fault| (fault, seen(fault))).collect();

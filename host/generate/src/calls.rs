@@ -87,14 +87,18 @@ impl Caller {
         Caller { phases: [Phase::Closed; 8], slots, patience: 2 + random.below(12), liked }
     }
 
+    /// One that uses all slots and likes one target: most of its first sends clash.
+    pub fn crowded(random: &mut Random, library: &Library) -> Caller {
+        Caller { phases: [Phase::Closed; 8], slots: 8, patience: 2, liked: vec![target(random, library)] }
+    }
+
     /// Learns what a call was answered.
     pub fn told(&mut self, call: Call, answer: Answer) {
         let (slot, phase) = match (call, answer) {
-            (Call::Begin(s), Answer::Done) | (Call::Step(s), Answer::Answer(_)) => (s, Phase::Open),
             (Call::Send { slot, .. }, Answer::Done) => (slot, Phase::Running),
+            (Call::Step(s), Answer::Answer(_)) => (s, Phase::Open),
             (Call::Commit(s) | Call::Abort(s), Answer::Done) | (Call::Step(s), Answer::Stopped) => (s, Phase::Closed),
             // On altered memory a slot may be open although nobody opened it.
-            (Call::Begin(s), Answer::Refused(33)) if self.phases[s as usize] == Phase::Closed => (s, Phase::Open),
             (Call::Send { slot: s, .. } | Call::Commit(s), Answer::Refused(34)) => (s, Phase::Running),
             (Call::Step(s), Answer::Refused(35)) => (s, Phase::Open),
             _ => return,
@@ -110,11 +114,10 @@ impl Caller {
     /// A call without a thought: a slot that may not be there, a send that may name nothing.
     fn any(&self, random: &mut Random, library: &Library) -> Call {
         let slot = if random.one_in(3) { *random.pick(&[8, 9, 31, 32, u32::MAX]) } else { random.below(8) as u32 };
-        match random.below(6) {
-            0 => Call::Begin(slot),
-            1 => Call::Step(slot),
-            2 => Call::Commit(slot),
-            3 => Call::Abort(slot),
+        match random.below(5) {
+            0 => Call::Step(slot),
+            1 => Call::Commit(slot),
+            2 => Call::Abort(slot),
             _ => {
                 let number = |random: &mut Random, n: usize| if random.one_in(3) { random.edge() } else { random.below(n + 1) as u32 };
                 let target = match random.below(3) {
@@ -138,7 +141,12 @@ impl Caller {
         }
         let slot = random.below(self.slots) as u32;
         match self.phases[slot as usize] {
-            Phase::Closed => Call::Begin(slot),
+            Phase::Closed => match random.below(24) {
+                0 => Call::Step(slot),
+                1 => Call::Commit(slot),
+                2 => Call::Abort(slot),
+                _ => self.send(random, library, slot),
+            },
             Phase::Running if random.one_in(4) => Call::Abort(slot),
             Phase::Running => Call::Step(slot),
             Phase::Open => match random.below(8) {

@@ -11,7 +11,6 @@ const NOBODY: &str = "nobody";
 /// The line of a call. What it names by a number that nothing has, the line names by a name that nothing has.
 pub fn line(library: &Library, call: Call) -> String {
     match call {
-        Call::Begin(slot) => format!("begin {slot}\n"),
         Call::Step(slot) => format!("step {slot}\n"),
         Call::Commit(slot) => format!("commit {slot}\n"),
         Call::Abort(slot) => format!("abort {slot}\n"),
@@ -44,11 +43,11 @@ pub fn lines<'a>(random: &'a mut Random, library: &'a Library) -> impl Iterator<
 const ODD: [&[u8]; 20] = [
     b"",
     b" ",
-    b"begin",
-    b"begin 00",
-    b"begin 8",
-    b"begin 0\r",
-    b"BEGIN 0",
+    b"step",
+    b"step 00",
+    b"step 8",
+    b"step 0\r",
+    b"STEP 0",
     b"step\t0",
     b"step 4294967295",
     b"step 4294967296",

@@ -55,7 +55,6 @@ fn messages_are_as_long_as_named() {
     for steps in 1_021..=1_025 {
         let library = reference::read(&limits::message_of(steps)).unwrap();
         let mut machine = Machine::start(&library, &library.starting_values()).unwrap();
-        machine.call(Call::Begin(0));
         machine.call(Call::Send { slot: 0, target: Target::Object(0), method: 0, argument: 0 });
         let going = (0..).take_while(|_| machine.call(Call::Step(0)) == Answer::Going).count();
         assert_eq!(going + 1, steps.min(1_024), "{steps} steps");

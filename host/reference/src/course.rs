@@ -44,9 +44,7 @@ impl<'a> Course<'a> {
 
     pub fn feed(&mut self, call: Call, answer: Answer) {
         match (call, answer) {
-            (Call::Begin(s), Answer::Done) | (Call::Abort(s), Answer::Done) | (Call::Step(s), Answer::Stopped) => {
-                self.lists[s as usize].clear();
-            }
+            (Call::Abort(s), Answer::Done) | (Call::Step(s), Answer::Stopped) => self.lists[s as usize].clear(),
             (Call::Send { slot, target, method, argument }, Answer::Done) => {
                 self.latest[slot as usize] = message(self.library, target, method, argument);
             }

@@ -14,7 +14,6 @@ pub fn call(library: &Library, line: &[u8]) -> Option<Call> {
     let line = std::str::from_utf8(line).ok()?;
     let words: Vec<&str> = line.split(' ').collect();
     match words.as_slice() {
-        ["begin", slot] => Some(Call::Begin(number(slot)?)),
         ["step", slot] => Some(Call::Step(number(slot)?)),
         ["commit", slot] => Some(Call::Commit(number(slot)?)),
         ["abort", slot] => Some(Call::Abort(number(slot)?)),

@@ -14,7 +14,6 @@ pub enum Target {
 
 #[derive(Clone, Copy, Debug, PartialEq, Eq)]
 pub enum Call {
-    Begin(u32),
     Send { slot: u32, target: Target, method: u32, argument: u32 },
     Step(u32),
     Commit(u32),
@@ -246,8 +245,12 @@ impl<'a> Machine<'a> {
         values_of(self.library, &self.fields)
     }
 
+    pub fn is_open(&self, slot: u32) -> bool {
+        matches!(self.slots.get(slot as usize), Some(Some(_)))
+    }
+
     pub fn idle(&self) -> bool {
-        self.slots.iter().all(|s| s.is_none())
+        !(0..8).any(|slot| self.is_open(slot))
     }
 
     fn commute(&self, class: &str, a: &str, b: &str) -> bool {
@@ -264,20 +267,15 @@ impl<'a> Machine<'a> {
     }
 
     pub fn call(&mut self, call: Call) -> Answer {
-        let (Call::Begin(slot) | Call::Send { slot, .. } | Call::Step(slot) | Call::Commit(slot) | Call::Abort(slot)) = call;
-        let slot = slot as usize;
+        let (Call::Send { slot, .. } | Call::Step(slot) | Call::Commit(slot) | Call::Abort(slot)) = call;
         if slot > 7 {
             return Answer::Refused(31);
         }
-        let open = self.slots[slot].is_some();
+        let open = self.is_open(slot);
+        let slot = slot as usize;
         let running = open && self.slots[slot].as_ref().unwrap().message.is_some();
         match call {
-            Call::Begin(_) if open => Answer::Refused(33),
-            Call::Begin(_) => {
-                self.slots[slot] = Some(Transaction::default());
-                Answer::Done
-            }
-            _ if !open => Answer::Refused(32),
+            Call::Step(_) | Call::Commit(_) | Call::Abort(_) if !open => Answer::Refused(32),
             Call::Send { .. } | Call::Commit(_) if running => Answer::Refused(34),
             Call::Step(_) if !running => Answer::Refused(35),
             Call::Send { target, method, argument, .. } => self.send(slot, target, method, argument),
@@ -300,6 +298,7 @@ impl<'a> Machine<'a> {
         }
     }
 
+    /// A granted send opens its slot where that is closed; one that gets 36 or 40 alters nothing.
     fn send(&mut self, slot: usize, target: Target, method: u32, argument: u32) -> Answer {
         let message = match message(self.library, target, method, argument) {
             Some(message) => message,
@@ -311,7 +310,7 @@ impl<'a> Machine<'a> {
                 return Answer::Held(other as u32);
             }
         }
-        let transaction = self.slots[slot].as_mut().unwrap();
+        let transaction = self.slots[slot].get_or_insert_with(Transaction::default);
         transaction.locks.extend(message.locks.iter().cloned());
         transaction.left = message.objects.iter().rev().copied().collect();
         transaction.sum = 0;

@@ -30,9 +30,3 @@ pub fn bytes(n: u64, kind: &str) -> Vec<u8> {
 pub fn lines(n: u64, kind: &str) -> Vec<String> {
     String::from_utf8(bytes(n, kind)).expect("a text").lines().map(String::from).collect()
 }
-
-/// What `rehearse` prints for `N.txt` and `N.calls`: `N.out`, or `N.trace` without the values after each call.
-pub fn printed(n: u64) -> Vec<u8> {
-    let answer = |line: String| line.split(" |").next().unwrap().to_string() + "\n";
-    bytes_if_any(n, "out").unwrap_or_else(|| lines(n, "trace").into_iter().map(answer).collect::<String>().into_bytes())
-}

@@ -112,7 +112,7 @@ fn refusals() {
         (&long, "refused 11 0\n", &["11: the text has more than 32,768 bytes\n", ""]),
     ] {
         fs::write(copy.join("samples/faulty"), text).unwrap();
-        for (script, input) in [("tables.sh", None), ("rehearse.sh", Some("begin 0\n"))] {
+        for (script, input) in [("tables.sh", None), ("rehearse.sh", Some("step 0\n"))] {
             let (printed, said, status) = run(&copy, &[script, "faulty"], input, "");
             assert_eq!((printed.as_str(), status), (refused, Some(0)), "{script}");
             says(&said, words);
@@ -138,7 +138,7 @@ fn rehearse() {
     says(&said, &["rehearse.sh: crate 2 of "]);
     let (printed, _, status) = run(&copy, &["rehearse.sh"], None, "");
     assert_eq!(status, Some(0));
-    says(&printed, &["samples/left-board.calls\nbegin 0                 ok\n", "\n                        lane1 1 0 40\n"]);
+    says(&printed, &["samples/left-board.calls\nsend 0 lane1 shot 40    ok\n", "\n                        lane1 1 0 40\n"]);
     says(&printed, &["samples/right-board.calls\n", "send 1 lane1 tune 5     40 0\n", "\n                        lane1 1 0 45\n"]);
 }
 

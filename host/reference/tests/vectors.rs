@@ -5,7 +5,7 @@ use reference::image::{image, tables};
 use reference::lines::{call, objects, traced};
 use reference::machine::{Call, Machine};
 use reference::rehearsal::rehearsed;
-use reference::stored::{bytes, bytes_if_any, lines, numbers, printed};
+use reference::stored::{bytes, bytes_if_any, lines, numbers};
 use reference::text::read;
 
 #[test]
@@ -52,6 +52,6 @@ fn call_lists() {
 fn rehearsals() {
     for n in numbers("calls") {
         let text = bytes_if_any(n, "txt").unwrap_or_default();
-        assert_eq!(rehearsed(&text, &bytes(n, "calls")).as_bytes(), printed(n), "rehearsal {n}");
+        assert_eq!(rehearsed(&text, &bytes(n, "calls")).as_bytes(), bytes(n, "out"), "rehearsal {n}");
     }
 }

@@ -28,10 +28,6 @@ mod entries {
             text: *const u8, text_length: usize, values: *const u32, value_count: usize, state: *mut u32,
             state_words: usize, line: *mut usize,
         ) -> u32;
-        pub fn cishmolaq_begin(
-            text: *const u8, text_length: usize, state: *mut u32, state_words: usize, values: *const u32,
-            value_count: usize, slot: u32, detail: *mut u32,
-        ) -> u32;
         pub fn cishmolaq_send(
             text: *const u8, text_length: usize, state: *mut u32, state_words: usize, values: *const u32,
             value_count: usize, slot: u32, kind: u32, named: u32, method: u32, argument: u32, detail: *mut u32,

@@ -31,8 +31,6 @@ pub enum Refusal {
     NoSuchSlot,
     /// 32: the slot is not open.
     NotOpen,
-    /// 33: the slot is open.
-    Open,
     /// 34: a message runs.
     Running,
     /// 35: no message runs.
@@ -105,14 +103,6 @@ pub mod lent {
         }
     }
 
-    pub fn begin(text: &[u8], state: &mut [u32], values: &[u32], slot: u32) -> Outcome {
-        let (mut detail, text, values) = (u32::MAX, (text.as_ptr(), text.len()), (values.as_ptr(), values.len()));
-        let number = unsafe {
-            entries::cishmolaq_begin(text.0, text.1, state.as_mut_ptr(), state.len(), values.0, values.1, slot, &mut detail)
-        };
-        outcome(number, detail, &[0, 21, 24, 31, 33])
-    }
-
     pub fn send(text: &[u8], state: &mut [u32], values: &[u32], slot: u32, target: Target, method: u32, argument: u32) -> Outcome {
         let (kind, named) = match target {
             Target::Object(object) => (0, object),
@@ -130,7 +120,7 @@ pub mod lent {
             let (state, words) = (state.as_mut_ptr(), state.len());
             entries::cishmolaq_send(text.0, text.1, state, words, values.0, values.1, slot, kind, named, method, argument, &mut detail)
         };
-        outcome(number, detail, &[0, 21, 24, 31, 32, 34, 36, 40])
+        outcome(number, detail, &[0, 21, 24, 31, 34, 36, 40])
     }
 
     pub fn step(text: &[u8], state: &mut [u32], values: &mut [u32], slot: u32) -> Outcome {
@@ -165,7 +155,6 @@ fn refusal(answer: Outcome) -> Refusal {
     match answer {
         Outcome::Refused(31) => Refusal::NoSuchSlot,
         Outcome::Refused(32) => Refusal::NotOpen,
-        Outcome::Refused(33) => Refusal::Open,
         Outcome::Refused(34) => Refusal::Running,
         Outcome::Refused(35) => Refusal::NotRunning,
         Outcome::Refused(36) => Refusal::NothingThere,
@@ -200,12 +189,8 @@ impl<'a> Machine<'a> {
         self.values
     }
 
-    /// Opens a slot. Gives `NoSuchSlot` or `Open`.
-    pub fn begin(&mut self, slot: u32) -> Result<(), Refusal> {
-        done(lent::begin(self.text, &mut self.state, self.values, slot))
-    }
-
-    /// Sends the method at a place of the target's class. Gives `NoSuchSlot`, `NotOpen`, `Running` or `NothingThere`.
+    /// Sends the method at a place of the target's class. If granted it opens its slot where that is closed; if held it alters
+    /// nothing. Gives `NoSuchSlot`, `Running` or `NothingThere`.
     pub fn send(&mut self, slot: u32, target: Target, method: u32, argument: u32) -> Result<Sent, Refusal> {
         match lent::send(self.text, &mut self.state, self.values, slot, target, method, argument) {
             Outcome::Done => Ok(Sent::Granted),
@@ -224,12 +209,12 @@ impl<'a> Machine<'a> {
         }
     }
 
-    /// Frees the slot and leaves the values. Gives `NoSuchSlot`, `NotOpen` or `Running`.
+    /// Closes the slot and leaves the values. Gives `NoSuchSlot`, `NotOpen` or `Running`.
     pub fn commit(&mut self, slot: u32) -> Result<(), Refusal> {
         done(lent::commit(self.text, &mut self.state, self.values, slot))
     }
 
-    /// Puts back each value that the transaction set, and frees the slot. Gives `NoSuchSlot` or `NotOpen`.
+    /// Puts back each value that the transaction set, and closes the slot. Gives `NoSuchSlot` or `NotOpen`.
     pub fn abort(&mut self, slot: u32) -> Result<(), Refusal> {
         done(lent::abort(self.text, &mut self.state, self.values, slot))
     }

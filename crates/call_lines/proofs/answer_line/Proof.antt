@@ -2,17 +2,15 @@
 use native.Mathlib.Omega.{arith}
 use mathlib.Core.Path.{refl, sym, ap, _∙_}
 use mathlib.Core.Option.{some}
-use mathlib.Core.List.{List}
 use lib.ListN.{take, drop}
 use lib.Seq.{length-take-le}
 use Rattle.model.specs.Text.{words}
 use Rattle.model.specs.Rehearsal.{callLine}
 use Rattle.text_lex.specs.Number.{said}
 use Rattle.text_lex.specs.Scan.{isByte, before-le}
-use Rattle.text_lex.specs.Piece.{wordsAfter, others, behind, none-after, cons-after}
+use Rattle.text_lex.specs.Piece.{wordsAfter, behind, none-after, cons-after}
 use Rattle.call_lines.specs.Says.{says-none, says-as}
 use Rattle.call_lines.specs.Forms.{slotThen, line-slot, slot-more}
-use Prim.Native.Nat.{ℕ}
 use borrow.Author.Needs.{needs}
 use Rattle.call_lines.proofs.answer_line.Statement.{statement}
 use Rattle.call_lines.proofs.answer_line.Tie as tie

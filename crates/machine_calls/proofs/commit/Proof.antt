@@ -1,24 +1,33 @@
--- `commit` meets its contract: the tests in the order of the numbers, then the slot is freed.
+-- `commit` meets its contract: the tests by number, then the slot is freed.
 use borrow.Author.Needs.{needs}
 use mathlib.Core.Path.{refl}
-use Rattle.machine_checks.specs.Phases.{idle-refused, idle-within, idle-on, leaves-as}
+use Rattle.machine_checks.specs.Phases.{idle-refused, idle-within, idle-closed, idle-open, leaves-as}
 use Rattle.machine_calls.proofs.commit.Statement.{statement}
 use Rattle.machine_calls.proofs.commit.Tie as tie
 use Rattle.model.specs.Service.{commit}
 
 returns : tie.Need-returns
-returns c = leaves-as (idle-refused _ _ _ _ _ (c .before .idle-refusal .ensures) refl refl (c .if1 .taken)) (record { says = refl; words-are = refl; values-are = refl })
-
-close-slot-requires : tie.Need-close-slot-requires
-close-slot-requires c κs =
-    let e = c .before in
-    idle-within _ _ _ (commit _) _ (e .before .idle-refusal .ensures) refl refl (e .if1 .left)
+returns c = leaves-as (idle-refused _ _ _ _ _ (c .before .idle-refusal .ensures) refl (c .if1 .taken)) (record { says = refl; words-are = refl; values-are = refl })
 
 returns-2 : tie.Need-returns-2
 returns-2 c =
+    let f = c .before in
+    let e = f .before .before in
+    leaves-as (idle-closed _ _ _ _ _ (e .before .idle-refusal .ensures) refl (e .if1 .left) _ (f .phase-of .ensures) (c .if2 .taken))
+    (record { says = refl; words-are = refl; values-are = refl })
+
+close-slot-requires : tie.Need-close-slot-requires
+close-slot-requires c κs =
+    let e = c .before .before .before .before in
+    idle-within _ _ _ (commit _) _ (e .before .idle-refusal .ensures) refl (e .if1 .left)
+
+returns-3 : tie.Need-returns-3
+returns-3 c =
     let l = c .before .before in
-    let e = l .before .before in
-    leaves-as (idle-on _ _ _ _ _ (e .before .idle-refusal .ensures) refl refl (e .if1 .left))
+    let i = l .before .before in
+    let f = i .before in
+    let e = f .before .before in
+    leaves-as (idle-open _ _ _ _ _ (e .before .idle-refusal .ensures) refl (e .if1 .left) _ (f .phase-of .ensures) (i .if2 .left))
     (record { says = refl; words-are = l .close-slot .ensures; values-are = refl })
 
 pub commit-spec : {M : Type 1} → statement M
@@ -28,6 +37,9 @@ commit-spec =
     (λ c κs. search needs)
     (λ c. search needs)
     returns
+    (λ c κs. search needs)
+    (λ c. search needs)
+    returns-2
     close-slot-requires
     (λ c. search needs)
-    returns-2)
+    returns-3)

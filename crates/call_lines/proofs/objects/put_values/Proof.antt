@@ -2,7 +2,7 @@
 use Prim.Native.Nat.{ℕ, _+_, _-_, _*_, _≤_}
 use native.Mathlib.Omega.{arith}
 use mathlib.Core.Path.{_≡_, sym, ap, _∙_}
-use mathlib.Core.List.{List, _++_, flatMap}
+use mathlib.Core.List.{_++_, flatMap}
 use lib.ListN.{length-drop, getD, take, drop}
 use lib.Seq.{getD-drop}
 use Rattle.output.specs.Append.{Appended, appended-none, appended-then, appended-as, appended-length}

@@ -1,0 +1,79 @@
+-- What a call does: one of eight moves, each with its reasons. The tests of a call are gone through here, and nowhere else.
+use Prim.Native.Nat.{ℕ, _≤_, _<_}
+use native.Mathlib.Omega.{arith}
+use mathlib.Core.Path.{_≡_, refl, sym, ap, _∙_, subst}
+use mathlib.Core.Bool.{Bool, true, false}
+use mathlib.Core.Option.{Option, none, some}
+use lib.Dec.{T, ltb, ltb→lt}
+use Rattle.model.specs.Base.{least}
+use Rattle.model.specs.Service.{Outcome, goes, ends, stops, Service, Call, send, step, commit, abort, Answer, done, going, answer, refuse, held, stopped, Transaction, Slot, closed, opened, World, withSlot, standing, started, inTheWay, granted, sent, undone, after, stepped, onClosed, onOpen, onSlot, slotOf, inRange, call}
+
+module _ (𝓢 : Service) where
+  open Service 𝓢 using (Request, Message, Run, Effect, find, turn)
+
+  -- A send that is tested for its locks: its slot is one of the eight and runs no message, and the message exists.
+  pub record Asks (w : World 𝓢) (s : ℕ) (q : Request) (m : Message) : Type 0 where
+    pub below : s < 8
+    pub idle : standing 𝓢 (w .slots s) .running ≡ none
+    pub found : find q ≡ some m
+
+  -- A step of a running message.
+  pub record Runs (w : World 𝓢) (s : ℕ) (y : Transaction 𝓢) (r : Run) : Type 0 where
+    pub below : s < 8
+    pub is-open : w .slots s ≡ opened y
+    pub runs : y .running ≡ some r
+
+  pub data Move (w : World 𝓢) : Call Request → Answer × World 𝓢 → Type 0 where
+    refused : (c : Call Request) (n : ℕ) → 31 ≤ n → Move w c (refuse n, w)
+    clashes : (s : ℕ) (q : Request) (m : Message) (k : ℕ) → Asks w s q m → least (inTheWay 𝓢 w s m) 8 ≡ some k → Move w (send s q) (held k, w)
+    starts : (s : ℕ) (q : Request) (m : Message) → Asks w s q m → least (inTheWay 𝓢 w s m) 8 ≡ none → Move w (send s q) (done, started 𝓢 w s m)
+    goes-on : (s : ℕ) (y : Transaction 𝓢) (r r′ : Run) (e : Effect) → Runs w s y r → turn r (w .fields) ≡ goes r′ e
+        → Move w (step s) (going, after 𝓢 w s y e (some r′))
+    replies : (s : ℕ) (y : Transaction 𝓢) (r : Run) (v : ℕ) (e : Effect) → Runs w s y r → turn r (w .fields) ≡ ends v e
+        → Move w (step s) (answer v, after 𝓢 w s y e none)
+    halts : (s : ℕ) (y : Transaction 𝓢) (r : Run) → Runs w s y r → turn r (w .fields) ≡ stops → Move w (step s) (stopped, undone 𝓢 w s y)
+    commits : (s : ℕ) (y : Transaction 𝓢) → s < 8 → w .slots s ≡ opened y → y .running ≡ none → Move w (commit s) (done, withSlot 𝓢 w s closed)
+    aborts : (s : ℕ) (y : Transaction 𝓢) → s < 8 → w .slots s ≡ opened y → Move w (abort s) (done, undone 𝓢 w s y)
+
+  module _ (w : World 𝓢) where
+    by-locks : (s : ℕ) (q : Request) (m : Message) → Asks w s q m → (k : Option ℕ) → least (inTheWay 𝓢 w s m) 8 ≡ k → Move w (send s q) (granted 𝓢 w s m k)
+    by-locks s q m a none e = starts s q m a e
+    by-locks s q m a (some k) e = clashes s q m k a e
+
+    by-name : (s : ℕ) (q : Request) → s < 8 → standing 𝓢 (w .slots s) .running ≡ none → (o : Option Message) → find q ≡ o → Move w (send s q) (sent 𝓢 w s o)
+    by-name s q below idle none f = refused (send s q) 36 (omega arith)
+    by-name s q below idle (some m) f = by-locks s q m (record { below = below; idle = idle; found = f }) (least (inTheWay 𝓢 w s m) 8) refl
+
+    by-turn : (s : ℕ) (y : Transaction 𝓢) (r : Run) → Runs w s y r → (o : Outcome Run Effect) → turn r (w .fields) ≡ o → Move w (step s) (stepped 𝓢 w s y o)
+    by-turn s y r a (goes r′ e) v = goes-on s y r r′ e a v
+    by-turn s y r a (ends n e) v = replies s y r n e a v
+    by-turn s y r a stops v = halts s y r a v
+
+    by-running : (c : Call Request) → slotOf 𝓢 c < 8 → (y : Transaction 𝓢) → w .slots (slotOf 𝓢 c) ≡ opened y
+        → (r : Option Run) → y .running ≡ r → Move w c (onOpen 𝓢 w c y r)
+    by-running (send s q) below y o none n = by-name s q below (ap (λ z. standing 𝓢 z .running) o ∙ n) (find q) refl
+    by-running (send s q) below y o (some r) n = refused (send s q) 34 (omega arith)
+    by-running (step s) below y o none n = refused (step s) 35 (omega arith)
+    by-running (step s) below y o (some r) n = by-turn s y r (record { below = below; is-open = o; runs = n }) (turn r (w .fields)) refl
+    by-running (commit s) below y o none n = commits s y below o n
+    by-running (commit s) below y o (some r) n = refused (commit s) 34 (omega arith)
+    by-running (abort s) below y o none n = aborts s y below o
+    by-running (abort s) below y o (some r) n = aborts s y below o
+
+    by-closed : (c : Call Request) → slotOf 𝓢 c < 8 → w .slots (slotOf 𝓢 c) ≡ closed → Move w c (onClosed 𝓢 w c)
+    by-closed (send s q) below o = by-name s q below (ap (λ z. standing 𝓢 z .running) o) (find q) refl
+    by-closed (step s) below o = refused (step s) 32 (omega arith)
+    by-closed (commit s) below o = refused (commit s) 32 (omega arith)
+    by-closed (abort s) below o = refused (abort s) 32 (omega arith)
+
+    by-slot : (c : Call Request) → slotOf 𝓢 c < 8 → (z : Slot 𝓢) → w .slots (slotOf 𝓢 c) ≡ z → Move w c (onSlot 𝓢 w c z)
+    by-slot c below closed o = by-closed c below o
+    by-slot c below (opened y) o = by-running c below y o (y .running) refl
+
+    by-range : (c : Call Request) (b : Bool) → ltb (slotOf 𝓢 c) 8 ≡ b → Move w c (inRange 𝓢 w c b)
+    by-range c false e = refused c 31 (omega arith)
+    by-range c true e = by-slot c (ltb→lt (slotOf 𝓢 c) 8 (subst T (sym e) tt)) (w .slots (slotOf 𝓢 c)) refl
+
+    -- Every call is one of these moves.
+    pub moves : (c : Call Request) → Move w c (call 𝓢 w c)
+    moves c = by-range c (ltb (slotOf 𝓢 c) 8) refl
