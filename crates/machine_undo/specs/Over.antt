@@ -3,15 +3,16 @@ use Prim.Native.Nat.{ℕ, zero, suc, _+_, _*_, _/_, _%_, _^_, _≤_, _<_}
 use native.Mathlib.Nat.{not-suc-le-zero, le-of-suc-le-suc, one-mul}
 use native.Mathlib.Numerals.{add-one}
 use native.Mathlib.Omega.{arith}
-use mathlib.Core.Path.{_≡_, refl, sym, ap, _∙_}
+use mathlib.Core.Path.{_≡_, refl, sym, ap, subst, _∙_}
 use mathlib.Core.List.{List, [], _∷_, _++_}
 use lib.ListN.{length, getD, take, drop, set, replicate}
 use lib.Pow.{shl-exact}
 use lib.Bits.{bitOr}
+use lib.Count.{trailingZeros}
 use borrow.Author.Tests.{lt-ltb, le-ltb, eq-eqb, ne-eqb}
 use Rattle.layout.specs.Layout.{valuesMost, changedAt, marksAt, notesAt}
 use Rattle.model.specs.Undo.{restored}
-use Rattle.laws.specs.Bits.{bit}
+use Rattle.laws.specs.Bits.{bit, zeros-bit, bit-fits}
 use Rattle.machine_words.specs.Row.{noteAt, notedRow}
 
 -- The first i elements are those of `made`, the others those of `old`.
@@ -40,13 +41,14 @@ over-length (suc i) [] (o ∷ os) e = absurd (omega arith)
 over-length (suc i) (t ∷ ts) [] e = absurd (omega arith)
 over-length (suc i) (t ∷ ts) (o ∷ os) e = ap suc (over-length i ts os (suc-injective e))
 
--- The next element is still the old one.
-pub over-at : (i : ℕ) (made old : List ℕ) → length made ≡ length old → getD (over i made old) i 0 ≡ getD old i 0
-over-at zero made old e = refl
-over-at (suc i) [] [] e = refl
-over-at (suc i) [] (o ∷ os) e = absurd (omega arith)
-over-at (suc i) (t ∷ ts) [] e = absurd (omega arith)
-over-at (suc i) (t ∷ ts) (o ∷ os) e = over-at i ts os (suc-injective e)
+-- The next element and those after it are still the old ones.
+pub over-old : (i j : ℕ) (made old : List ℕ) → length made ≡ length old → i ≤ j → getD (over i made old) j 0 ≡ getD old j 0
+over-old zero j made old e h = refl
+over-old (suc i) j [] [] e h = refl
+over-old (suc i) j [] (o ∷ os) e h = absurd (omega arith)
+over-old (suc i) j (t ∷ ts) [] e h = absurd (omega arith)
+over-old (suc i) zero (t ∷ ts) (o ∷ os) e h = absurd (not-suc-le-zero h)
+over-old (suc i) (suc j) (t ∷ ts) (o ∷ os) e h = over-old i j ts os (suc-injective e) (le-of-suc-le-suc h)
 
 -- An element before that is the new one.
 pub over-made : (i j : ℕ) (made old : List ℕ) → length made ≡ length old → j < i → getD (over i made old) j 0 ≡ getD made j 0
@@ -77,10 +79,6 @@ module _ (made old : List ℕ) (e : length made ≡ length old) (now : List ℕ)
   -- A turn that stores the element.
   pub over-put : (v : ℕ) → v ≡ getD made i 0 → set now i v ≡ over (i + 1) made old
   over-put v w = ap (λ (l : List ℕ). set l i v) q ∙ ap (λ (x : ℕ). set (over i made old) i x) w ∙ put-next i made old e h ∙ ap (λ (k : ℕ). over k made old) (sym (add-one i))
-
-  -- A turn that leaves it as it is.
-  pub over-keep : getD made i 0 ≡ getD old i 0 → now ≡ over (i + 1) made old
-  over-keep w = q ∙ keep-next i made old e h w ∙ ap (λ (k : ℕ). over k made old) (sym (add-one i))
 
 -- ---- reading a note
 
@@ -118,6 +116,14 @@ module _ (row : List ℕ) (k v : ℕ) where
 
 pub one-shifted : (k : ℕ) → k < 32 → (1 * 2 ^ k) % 2 ^ 32 ≡ 2 ^ k
 one-shifted k h = shl-exact {a = 1} 1 k 32 (omega arith) (omega arith) ∙ one-mul (2 ^ k)
+
+-- The lowest mark of a word other than 0, as the code shifts it: it is one of the word's.
+module _ (left : ℕ) (few : left < 2 ^ 32) (some : left ≡ 0 → ⊥) where
+  pub lowest-shifted : (1 * 2 ^ trailingZeros 32 left) % 2 ^ 32 ≡ 2 ^ trailingZeros 32 left
+  lowest-shifted = one-shifted (trailingZeros 32 left) (zeros-bit 32 left few some .0)
+
+  pub lowest-fits : (1 * 2 ^ trailingZeros 32 left) % 2 ^ 32 ≤ left
+  lowest-fits = subst (λ (m : ℕ). m ≤ left) (sym lowest-shifted) (bit-fits (trailingZeros 32 left) left (zeros-bit 32 left few some .1))
 
 pub zeros-at : (n k : ℕ) → _≡_ {A = ℕ} (getD (replicate n 0) k 0) 0
 zeros-at zero k = refl

@@ -1,12 +1,12 @@
 // The undo notes of a slot's row: for each value a mark, and the value that it had before the transaction set it.
-ghost use Prim.Native.Nat.{_+_, _%_, _<_};
+ghost use Prim.Native.Nat.{_+_, _/_, _≤_, _<_};
 ghost use mathlib.Core.Path.{_≡_};
-ghost use mathlib.Core.Bool.{cond};
-ghost use lib.ListN.{length, set};
-ghost use Rattle.layout.specs.Layout.{valuesMost, notesAt, rowWords};
+ghost use mathlib.Core.Bool.{true};
+ghost use lib.ListN.{length};
+ghost use Rattle.layout.specs.Layout.{valuesMost, rowWords};
 ghost use Rattle.model.specs.Undo.{restored, putBack};
-ghost use Rattle.laws.specs.Bits.{bit};
-ghost use Rattle.machine_words.specs.Row.{noteAt, notedRow, unnoted};
+ghost use Rattle.machine_words.specs.Row.{noteAt, notedRow, unnoted, zeroed};
+ghost use Rattle.machine_undo.specs.Freed.{bitFrom, Unmarked};
 
 // The value that a value had before it was set; the value itself where it was not set.
 fn noted_or(row: &[u32], place: usize, value: u32) -> u32
@@ -49,30 +49,44 @@ pub fn note(row: &mut [u32], place: usize, value: u32)
     memory::put(row, layout::NOTES_AT + place, value);
 }
 
-// Clears a note where its mark is set.
-fn clear_note(row: &mut [u32], place: usize, marks: u32)
-    requires { ⌜ place < valuesMost ⌝ }
-    ensures { λ _. ⌜ now (row .exit) ≡ cond (bit marks (place % 32)) (set (now (row .entry)) (notesAt + place) 0) (now (row .entry)) ⌝ }
+// Clears the notes of one word of marks: each turn clears the lowest one left.
+fn clear_marked(row: &mut [u32], first: usize, marks: u32)
+    requires { ⌜ (length (now row) ≡ rowWords) × (first + 32 ≤ rowWords) ⌝ }
+    ensures { λ _. ⌜ now (row .exit) ≡ zeroed (bitFrom first marks) (now (row .entry)) ⌝ }
 {
-    if (marks >> (place % 32)) % 2 != 1 {
-        return;
+    let mut left = marks;
+    while left != 0 {
+        let mark = u32::trailing_zeros(left);
+        row[first + mark as usize] = 0;
+        left = left - (1u32 << mark);
     }
-    memory::put(row, layout::NOTES_AT + place, 0);
 }
 
-// Clears every note that was made. A word without marks is passed over as a whole.
+// Whether four words of marks from this one on, a multiple of four, are all 0.
+fn unmarked(row: &[u32], word: usize) -> bool
+    requires { ⌜ (length (now row) ≡ rowWords) × (word < valuesMost / 32) ⌝ }
+    ensures { λ r. ⌜ (r ≡ true → Unmarked (now (row .entry)) word) ⌝ }
+{
+    if word % 4 != 0 {
+        return false;
+    }
+    let at = layout::MARKS_AT + word;
+    row[at] | row[at + 1] | row[at + 2] | row[at + 3] == 0
+}
+
+// Clears every note that was made. Four words without marks are passed over together.
 pub fn clear_notes(row: &mut [u32])
     requires { ⌜ length (now row) ≡ rowWords ⌝ }
     ensures { λ _. ⌜ now (row .exit) ≡ unnoted (now (row .entry)) ⌝ }
 {
-    let mut place = 0;
-    while place < layout::VALUES {
-        let marks = memory::get(row, layout::MARKS_AT + place / 32);
-        if marks == 0 {
-            place += 32 - place % 32;
+    let mut word = 0;
+    while word < layout::VALUES / 32 {
+        if unmarked(row, word) {
+            word += 4;
         } else {
-            clear_note(row, place, marks);
-            place += 1;
+            let marks = row[layout::MARKS_AT + word];
+            clear_marked(row, layout::NOTES_AT + word * 32, marks);
+            word += 1;
         }
     }
 }

@@ -6,7 +6,7 @@ use mathlib.Core.Path.{_≡_, refl, sym, ap, _∙_}
 use mathlib.Core.List.{List}
 use lib.ListN.{length, getD, length-set}
 use Rattle.laws.specs.PutBack.{back-length, back-at}
-use Rattle.machine_undo.specs.Over.{over, over-all, over-at, over-put}
+use Rattle.machine_undo.specs.Over.{over, over-all, over-old, over-put}
 use Rattle.model.specs.Undo.{restored, putBack}
 use Rattle.machine_words.specs.Row.{noteAt}
 use Rattle.machine_undo.proofs.put_back.Statement.{statement}
@@ -31,7 +31,7 @@ loop-again c =
     let O = a .values .now in
     let T = putBack (noteAt (a .row .now)) O in
     let h : L .i < length O = omega (arith, L .inv .1) in
-    let o : getD (L .values) (L .i) 0 ≡ getD O (L .i) 0 = ap (λ (l : List ℕ). getD l (L .i) 0) (L .inv .2) ∙ over-at (L .i) T O (back-length (noteAt (a .row .now)) O) in
+    let o : getD (L .values) (L .i) 0 ≡ getD O (L .i) 0 = ap (λ (l : List ℕ). getD l (L .i) 0) (L .inv .2) ∙ over-old (L .i) (L .i) T O (back-length (noteAt (a .row .now)) O) (omega arith) in
     let v : c .noted-or .result ≡ getD T (L .i) 0 = c .noted-or .ensures ∙ ap (restored (noteAt (a .row .now) (L .i))) o ∙ sym (back-at (noteAt (a .row .now)) O (L .i) h) in (
       omega arith,
       length-set (L .values) (L .i) (c .noted-or .result) ∙ L .inv .1,

@@ -1,14 +1,14 @@
 -- Each turn clears the eight words of the lowest mark left, and removes the mark.
 use borrow.Author.Needs.{needs}
-use Prim.Native.Nat.{ℕ, _-_, _*_, _%_, _^_, _≤_, _<_}
+use Prim.Native.Nat.{ℕ, _-_, _*_, _%_, _^_, _<_}
 use native.Mathlib.Omega.{arith}
-use mathlib.Core.Path.{_≡_, refl, sym, ap, subst, _∙_}
+use mathlib.Core.Path.{_≡_, refl, sym, ap, _∙_}
 use mathlib.Core.Bool.{true}
 use lib.ListN.{length}
 use lib.Count.{trailingZeros}
 use lib.Pow.{pow-pos}
-use Rattle.laws.specs.Bits.{bit, zeros-bit, bit-fits}
-use Rattle.machine_undo.specs.Over.{one-shifted}
+use Rattle.laws.specs.Bits.{bit, zeros-bit}
+use Rattle.machine_undo.specs.Over.{lowest-shifted, lowest-fits}
 use Rattle.machine_locks.specs.Unlocked.{lessThan, less-length, less-none, less-all, named-less, less-more, unlocked-is}
 use Rattle.machine_locks.proofs.release.clear_locks.Statement.{statement}
 use Rattle.machine_locks.proofs.release.clear_locks.Tie as tie
@@ -19,14 +19,6 @@ Inv-loop row₀ left₀ row left =
 
 abbrev μ-loop : tie.MeasureT-loop
 μ-loop row₀ left₀ row left = left
-
--- The mark that is removed, as the code shifts it.
-shifted : (left : ℕ) → left < 2 ^ 32 → (left ≡ 0 → ⊥) → (1 * 2 ^ trailingZeros 32 left) % 2 ^ 32 ≡ 2 ^ trailingZeros 32 left
-shifted left h ne = one-shifted (trailingZeros 32 left) (zeros-bit 32 left h ne .0)
-
--- It is one of those that are left.
-taken : (left : ℕ) → left < 2 ^ 32 → (left ≡ 0 → ⊥) → (1 * 2 ^ trailingZeros 32 left) % 2 ^ 32 ≤ left
-taken left h ne = subst (λ (m : ℕ). m ≤ left) (sym (shifted left h ne)) (bit-fits (trailingZeros 32 left) left (zeros-bit 32 left h ne .1))
 
 loop-holds : tie.Need-loop-holds Inv-loop μ-loop
 loop-holds c = (refl, λ d e. e, less-none _ _, search needs)
@@ -45,14 +37,14 @@ shl-left c =
 sub-left : tie.Need-sub-left Inv-loop μ-loop
 sub-left c =
     let i = c .before .before .before .before in
-    taken (i .before .loop .left) (i .before .loop .inv .3) (i .loop-test .taken)
+    lowest-fits (i .before .loop .left) (i .before .loop .inv .3) (i .loop-test .taken)
 
 loop-less : tie.Need-loop-less Inv-loop μ-loop
 loop-less c =
     let i = c .before .before .before .before in
     let left = i .before .loop .left in
     let few = i .before .loop .inv .3 in
-    omega (arith, taken left few (i .loop-test .taken), shifted left few (i .loop-test .taken), pow-pos (trailingZeros 32 left))
+    omega (arith, lowest-fits left few (i .loop-test .taken), lowest-shifted left few (i .loop-test .taken), pow-pos (trailingZeros 32 left))
 
 loop-again : tie.Need-loop-again Inv-loop μ-loop
 loop-again c =
@@ -64,7 +56,7 @@ loop-again c =
     let O = L .before .before .before .before .args .row .now in
     let marks = L .before .get .result in
     let here = zeros-bit 32 left (L .loop .inv .3) (i .loop-test .taken) .1 in
-    let less : left - (1 * 2 ^ t) % 2 ^ 32 ≡ left - 2 ^ t = ap (λ (m : ℕ). left - m) (shifted left (L .loop .inv .3) (i .loop-test .taken)) in
+    let less : left - (1 * 2 ^ t) % 2 ^ 32 ≡ left - 2 ^ t = ap (λ (m : ℕ). left - m) (lowest-shifted left (L .loop .inv .3) (i .loop-test .taken)) in
     let next = less-more O marks left t here (L .loop .inv .1) (L .loop .row) (k .clear-eight .last .0) (L .loop .inv .2) (k .clear-eight .ensures) in (
       ap length next ∙ less-length O marks (left - 2 ^ t),
       λ d e. named-less O marks left t here (L .loop .inv .1) d (ap (λ (m : ℕ). bit m d) (sym less) ∙ e),
