@@ -6,3 +6,4 @@ pub mod Keeps
 pub mod Promises
 pub mod Made
 pub mod PlainCourse
+pub mod Seen

@@ -17,6 +17,7 @@ use Rattle.model.specs.Course.{course}
 use Rattle.laws.specs.Basics.{All}
 use Rattle.twophase.specs.Claims.{Right}
 use Rattle.theory.specs.VectorLaws.{program-compiled}
+use Rattle.theory.specs.CommitOrder.{left}
 use Rattle.machine_words.specs.Calls.{rowOf, phaseOf}
 use Rattle.machine_refinement.specs.Rep.{Rep, Fresh}
 use Rattle.machine_refinement.specs.State.{phase-closed, closed-phase}
@@ -37,8 +38,20 @@ abbrev pub programOf : List ℕ → Program
 programOf text = program (library text)
 
 -- Words after a start that was not refused.
-start-fresh : (text values state : List ℕ) (r : Start.Answer) (ws : List ℕ) → Begins text values state r ws → said r ≡ Entry.done 0 → Fresh text ws values (programOf text)
+pub start-fresh : (text values state : List ℕ) (r : Start.Answer) (ws : List ℕ) → Begins text values state r ws → said r ≡ Entry.done 0 → Fresh text ws values (programOf text)
 start-fresh text values state r ws h e = subst (λ (t : Told). StartLeaves text values state t ws) e (h .leaves) .0
+
+-- What a list of calls after such a start left represents the world after the model's calls.
+pub made-rep : (text values state : List ℕ) (r : Start.Answer) (ws : List ℕ) → Begins text values state r ws → said r ≡ Entry.done 0
+    → {cs : List Call} {rs : List Outcome} {ws′ values′ : List ℕ} → Made text ws values cs rs ws′ values′
+    → Rep text ws′ values′ (programOf text) (left (programOf text) values cs)
+made-rep text values state r ws begins e {cs} {ws′ = ws′} {values′ = values′} made =
+    let p = programOf text in
+    let x = calledAll text ws values cs in
+    let m = made-is made in
+    let first = fresh-rep text ws values p (start-fresh text values state r ws begins e) in
+    subst (λ (l : List ℕ). Rep text l values′ p (left p values cs)) (sym (m .1))
+    (subst (λ (l : List ℕ). Rep text (x .words) l p (left p values cs)) (sym (m .2)) (all-refine text ws values p (fresh (service p) values) first cs .1))
 
 -- Where one start succeeds, another does: on as many values, in any state that is long enough.
 start-again : (text : List ℕ) (count count′ size size′ : ℕ) → startAnswer text count size ≡ Entry.done 0 → count′ ≡ count → stateWords ≤ size′ → startAnswer text count′ size′ ≡ Entry.done 0

@@ -21,4 +21,5 @@ pub mod Sends
 pub mod Refines
 pub mod Refusals
 pub mod Course
+pub mod Moment
 pub mod Example

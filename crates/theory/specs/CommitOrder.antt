@@ -68,17 +68,19 @@ module _ (p : Program) (values : List ℕ) (cs : List Call) where
         as-new = λ more. ap (λ (w : World (service p)). runCalls (service p) w more) (s .as-new);
       }
 
-  -- What holds after any list of calls, whatever it leaves open: undoing every open transaction gives the course's fields, and
-  -- the answers so far of an open transaction are those that it would get alone on them.
+  -- What holds after any list of calls, whatever it leaves open (02, Ticket 4): undoing every open transaction gives the course's
+  -- fields; the answers so far of an open transaction are those that it would get alone on them; and those of a committed one are
+  -- those that it got alone at its commit.
   pub record AtThisMoment : Type 0 where
     pub undone : putBackAll (service p) 8 (left .slots) (left .fields) ≡ plain .fields
     pub got-alone : (s : ℕ) (t : Transaction (service p)) → left .slots s ≡ opened t
         → All Right (comparedIn (service p) (plain .slots s .list) (plain .fields))
+    pub committed-alone : All Right (plain .compared)
 
   pub at-every-moment-by : Compiled p → AtThisMoment
   at-every-moment-by compiled =
       let m = moment compiled in
-      record { undone = m .undone-fields; got-alone = m .open-answers }
+      record { undone = m .undone-fields; got-alone = m .open-answers; committed-alone = m .committed-answers }
 
 -- Demand 3, for any text and any values: "This is a single claim about the whole list, not one for each call."
 pub commit-order : (text values : List ℕ) (cs : List Call) → let p = program (library text) in

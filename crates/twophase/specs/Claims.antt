@@ -35,8 +35,9 @@ module _ (𝓢 : Service) where
     pub same-answers : All Right (x .compared)
     pub as-new : w ≡ fresh 𝓢 (x .fields)
 
-  -- At each moment: undoing all open transactions gives the course's fields, and the answers given to an open transaction are
-  -- those of its sends run on the course's fields.
+  -- At each moment: undoing all open transactions gives the course's fields; the answers given to an open transaction are those
+  -- of its sends run on the course's fields; and each answer compared at a commit is the one that its run gave.
   pub record Moment (w : World 𝓢) (x : Course 𝓢) : Type 0 where
     pub undone-fields : putBackAll 8 (w .slots) (w .fields) ≡ x .fields
     pub open-answers : (t : ℕ) (y : Transaction 𝓢) → w .slots t ≡ opened y → All Right (comparedIn 𝓢 (x .slots t .list) (x .fields))
+    pub committed-answers : All Right (x .compared)

@@ -5,3 +5,4 @@ pub mod Effects
 pub mod Invariant
 pub mod Preserve
 pub mod Theorem
+pub mod Aborts

@@ -77,3 +77,34 @@ module _ (𝓢 : Service) where
     -- Every call is one of these moves.
     pub moves : (c : Call Request) → Move w c (call 𝓢 w c)
     moves c = by-range c (ltb (slotOf 𝓢 c) 8) refl
+
+    -- ---- whose slot is open
+
+    -- Slot s is one of the eight, and open.
+    abbrev pub IsOpen : ℕ → Type 0
+    IsOpen s = (y : Transaction 𝓢) × (w .slots s ≡ opened y) × (s < 8)
+
+    abbrev DoneOn : Call Request → Type 0
+    DoneOn (send s q) = Unit {0}
+    DoneOn (step s) = Unit {0}
+    DoneOn (commit s) = IsOpen s
+    DoneOn (abort s) = IsOpen s
+
+    -- A commit or an abort that is done, and a step that is stopped, end an open transaction.
+    abbrev pub Ends : Call Request → Answer → Type 0
+    Ends c done = DoneOn c
+    Ends c going = Unit {0}
+    Ends c (answer v) = Unit {0}
+    Ends c (refuse n) = Unit {0}
+    Ends c (held k) = Unit {0}
+    Ends c stopped = IsOpen (slotOf 𝓢 c)
+
+    pub ends-open : {c : Call Request} {y : Answer × World 𝓢} → Move w c y → Ends c (y .0)
+    ends-open (refused c n g) = tt
+    ends-open (clashes s q m k a e) = tt
+    ends-open (starts s q m a e) = tt
+    ends-open (goes-on s y r r′ e a v) = tt
+    ends-open (replies s y r n e a v) = tt
+    ends-open (halts s y r a v) = (y, a .is-open, a .below)
+    ends-open (commits s y below o n) = (y, o, below)
+    ends-open (aborts s y below o) = (y, o, below)

@@ -89,6 +89,7 @@ module _ (𝓢 : Service) (𝓛 : Laws 𝓢) where
         record {
           undone-fields = ap (putBackAll 𝓢 8 (w .slots)) (inv .total) ∙ undo-over 8;
           open-answers = λ t y q. open-state 𝓢 𝓛 w x inv t y q .right (x .fields) (agree-self 𝓢 𝓛 w x inv t);
+          committed-answers = inv .good;
         }
 
     -- Where no transaction is open, machine and course have the same fields.

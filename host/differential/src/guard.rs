@@ -5,6 +5,7 @@ fn width() -> usize {
     crate::amount("CISHMOLAQ_GUARD", 64) as usize
 }
 
+#[derive(Clone)]
 pub struct Guarded<T> {
     all: Vec<T>,
     guard: T,

@@ -30,6 +30,7 @@ pub fn answer(outcome: Outcome) -> Answer {
 }
 
 /// A machine on lent memory with guards around it; the state is longer than it must be, by words that no call may alter.
+#[derive(Clone)]
 pub struct Lent {
     text: Guarded<u8>,
     state: Guarded<u32>,

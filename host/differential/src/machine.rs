@@ -1,9 +1,10 @@
-//! Call lists: a machine beside the second implementation, each call's answer and all fields after it, and the plain course.
+//! Call lists: a machine beside the second implementation, each call's answer and all fields after it; the plain course; and after
+//! every call what the tablets saw (document 02, Ticket 4).
 
 use generate::calls::Caller;
 use generate::Random;
 use reference::course::Course;
-use reference::machine::{Answer, Call, Target};
+use reference::machine::{Answer, Call, Fields, Target};
 use reference::text::Library;
 use std::collections::BTreeMap;
 
@@ -39,8 +40,32 @@ impl Machine for reference::machine::Machine<'_> {
     }
 }
 
+/// A machine that is copied with all its memory.
+pub trait Copied: Machine {
+    /// The fields after aborts of these slots, in this order, on a copy.
+    fn after_aborts(&self, slots: &[u32]) -> Vec<u32>;
+}
+
+impl<M: Machine + Clone> Copied for M {
+    fn after_aborts(&self, slots: &[u32]) -> Vec<u32> {
+        aborted(self, slots).fields()
+    }
+}
+
+/// A copy of a machine after aborts of these slots.
+fn aborted<M: Machine + Clone>(machine: &M, slots: &[u32]) -> M {
+    let mut copy = machine.clone();
+    for &slot in slots {
+        copy.abort(slot);
+    }
+    copy
+}
+
+/// All slots, in two orders to abort them in.
+pub const ORDERS: [[u32; 8]; 2] = [[0, 1, 2, 3, 4, 5, 6, 7], [7, 6, 5, 4, 3, 2, 1, 0]];
+
 /// Makes a call.
-pub fn make(machine: &mut dyn Machine, call: Call) -> Answer {
+pub fn make<M: Machine + ?Sized>(machine: &mut M, call: Call) -> Answer {
     match call {
         Call::Send { slot, target, method, argument } => machine.send(slot, target, method, argument),
         Call::Step(slot) => machine.step(slot),
@@ -56,7 +81,7 @@ pub type Counts = BTreeMap<String, u64>;
 /// A list in the making, on both machines and on the course.
 pub struct List<'a> {
     library: &'a Library,
-    machine: &'a mut dyn Machine,
+    machine: &'a mut dyn Copied,
     second: reference::machine::Machine<'a>,
     /// The names of each object's fields, in order.
     names: Vec<Vec<String>>,
@@ -68,7 +93,7 @@ pub struct List<'a> {
 
 impl<'a> List<'a> {
     /// After a start of the machine on these values.
-    pub fn new(library: &'a Library, values: &[u32], machine: &'a mut dyn Machine) -> List<'a> {
+    pub fn new(library: &'a Library, values: &[u32], machine: &'a mut dyn Copied) -> List<'a> {
         let second = reference::machine::Machine::start(library, values).expect("a value for each field");
         assert_eq!(machine.fields(), values, "the fields after a start");
         let (course, fields) = (Course::start(library, values), values.to_vec());
@@ -78,9 +103,9 @@ impl<'a> List<'a> {
         List { library, machine, second, names, course, made: Vec::new(), fields, counts: Counts::new() }
     }
 
-    /// The second implementation's fields.
-    fn right_fields(&self) -> Vec<u32> {
-        self.names.iter().zip(&self.second.fields).flat_map(|(names, of)| names.iter().map(|n| of[n])).collect()
+    /// Fields by object and name as a flat list.
+    fn flat(&self, fields: &Fields) -> Vec<u32> {
+        self.names.iter().zip(fields).flat_map(|(names, of)| names.iter().map(|n| of[n])).collect()
     }
 
     /// One call on both.
@@ -91,12 +116,27 @@ impl<'a> List<'a> {
         self.made.push((call, answer));
         assert_eq!(answer, right, "the answer of {call:?}");
         let fields = self.machine.fields();
-        assert_eq!(fields, self.right_fields(), "the fields after {call:?}, which answered {answer:?}");
+        assert_eq!(fields, self.flat(&self.second.fields), "the fields after {call:?}, which answered {answer:?}");
         self.course.feed(call, answer);
         let put_back = fields != self.fields && !matches!(answer, Answer::Going | Answer::Answer(_));
         self.count(call, first, answer, put_back);
         self.fields = fields;
+        self.look(call, answer);
         answer
+    }
+
+    /// Ticket 4 on both: undoing all open transactions gives the course's fields, and every transaction's answers are those it would
+    /// get running alone.
+    fn look(&self, call: Call, answer: Answer) {
+        let committed = self.flat(&self.course.fields);
+        for order in &ORDERS {
+            assert_eq!(self.machine.after_aborts(order), committed, "the fields after {call:?} and aborts of {order:?}");
+            let second = aborted(&self.second, order).fields;
+            assert_eq!(second, self.course.fields, "the second's fields after {call:?} and aborts of {order:?}");
+        }
+        // A send, a step that is going and a refused call alter neither the course's lists nor its fields.
+        let same = matches!(call, Call::Send { .. }) || matches!(answer, Answer::Going | Answer::Refused(_));
+        assert!(same || self.course.seen_right(), "the answers seen, after {call:?}");
     }
 
     fn count(&mut self, call: Call, first: bool, answer: Answer, put_back: bool) {

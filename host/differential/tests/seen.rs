@@ -1,10 +1,14 @@
 //! The comparison sees machines that are wrong: each fault that a reviewer of documents 01 and 02 tries, put around the second
-//! implementation.
+//! implementation. Ticket 4 by itself, with nothing to compare with, sees machines that demand 3 does not.
 
-use differential::machine::{List, Machine};
-use generate::calls::{text_to_call, values_for};
+use differential::machine::{make, Copied, List, Machine, ORDERS};
+use generate::calls::{text_to_call, values_for, Caller};
 use generate::Random;
-use reference::machine::{Answer, Target};
+use reference::course::{alone, Course};
+use reference::machine::{message, Answer, Call, Message, Target};
+use reference::text::Library;
+
+type Second<'a> = reference::machine::Machine<'a>;
 
 #[derive(Clone, Copy, Debug, PartialEq)]
 enum Fault {
@@ -22,8 +26,9 @@ enum Fault {
     RefusedSendOpens,
 }
 
+#[derive(Clone)]
 struct Faulty<'a> {
-    machine: reference::machine::Machine<'a>,
+    machine: Second<'a>,
     fault: Fault,
     start: Vec<u32>,
     /// Steps made, and an answer that is kept back, by slot.
@@ -99,7 +104,7 @@ fn seen(fault: Fault) -> usize {
         let mut random = Random::new(seed + 1_000_000);
         let library = reference::read(&text_to_call(&mut random)).unwrap();
         let values = values_for(&mut random, &library);
-        let machine = reference::machine::Machine::start(&library, &values).unwrap();
+        let machine = Second::start(&library, &values).unwrap();
         let mut faulty = Faulty { machine, fault, start: values.clone(), steps: [0; 8], kept: [None; 8], opened: [false; 8] };
         let list = std::panic::AssertUnwindSafe(|| List::new(&library, &values, &mut faulty).generated(&mut random, 300));
         std::panic::catch_unwind(list).is_err()
@@ -129,5 +134,173 @@ fn faults_are_seen() {
     for (fault, count) in counts {
         println!("{fault:?}: seen in {count} of 60 lists");
         assert!(count >= 20, "{fault:?} is seen in {count} of 60 lists only");
+    }
+}
+
+/// The slot of a viewer.
+const VIEWER: u32 = 0;
+
+/// A machine with a viewer: it takes no locks, runs on a copy of the fields, and its commits are refused.
+#[derive(Clone)]
+struct Viewed<'a> {
+    library: &'a Library,
+    machine: Second<'a>,
+    /// Whether the viewer reads what others have set and not committed.
+    reads_open: bool,
+    /// The messages of its transaction, of which the last may be running.
+    messages: Vec<Message>,
+    running: bool,
+}
+
+impl Viewed<'_> {
+    /// Runs the viewer's transaction; its answer is the last message's.
+    fn view(&mut self) -> Answer {
+        let mut copy = self.machine.clone();
+        if !self.reads_open {
+            for slot in 0..8 {
+                copy.call(Call::Abort(slot));
+            }
+        }
+        self.running = false;
+        let answers = self.messages.iter().map(|message| alone(self.library, message, &mut copy.fields));
+        match answers.last().flatten() {
+            Some(value) => Answer::Answer(value),
+            None => {
+                self.messages.clear();
+                Answer::Stopped
+            }
+        }
+    }
+}
+
+impl Machine for Viewed<'_> {
+    fn send(&mut self, slot: u32, target: Target, method: u32, argument: u32) -> Answer {
+        if slot != VIEWER {
+            return Machine::send(&mut self.machine, slot, target, method, argument);
+        }
+        match message(self.library, target, method, argument) {
+            _ if self.running => Answer::Refused(34),
+            None => Answer::Refused(36),
+            Some(message) => {
+                self.messages.push(message);
+                self.running = true;
+                Answer::Done
+            }
+        }
+    }
+
+    fn step(&mut self, slot: u32) -> Answer {
+        match slot {
+            VIEWER if self.running => self.view(),
+            VIEWER if !self.messages.is_empty() => Answer::Refused(35),
+            _ => Machine::step(&mut self.machine, slot),
+        }
+    }
+
+    fn commit(&mut self, slot: u32) -> Answer {
+        match slot {
+            VIEWER if !self.messages.is_empty() => Answer::Refused(34),
+            _ => Machine::commit(&mut self.machine, slot),
+        }
+    }
+
+    fn abort(&mut self, slot: u32) -> Answer {
+        match slot {
+            VIEWER if !self.messages.is_empty() => {
+                self.messages.clear();
+                self.running = false;
+                Answer::Done
+            }
+            _ => Machine::abort(&mut self.machine, slot),
+        }
+    }
+
+    fn fields(&self) -> Vec<u32> {
+        self.machine.values()
+    }
+}
+
+/// A machine that undoes late: it puts values back at the call after the abort. Demand 3 looks at a list's end only, so it sees this
+/// where the last call is such an abort.
+#[derive(Clone)]
+struct Late<'a> {
+    machine: Second<'a>,
+    aborted: Option<u32>,
+}
+
+impl<'a> Late<'a> {
+    /// The machine with all values put back.
+    fn undone(&mut self) -> &mut Second<'a> {
+        if let Some(slot) = self.aborted.take() {
+            self.machine.call(Call::Abort(slot));
+        }
+        &mut self.machine
+    }
+}
+
+impl Machine for Late<'_> {
+    fn send(&mut self, slot: u32, target: Target, method: u32, argument: u32) -> Answer {
+        Machine::send(self.undone(), slot, target, method, argument)
+    }
+
+    fn step(&mut self, slot: u32) -> Answer {
+        Machine::step(self.undone(), slot)
+    }
+
+    fn commit(&mut self, slot: u32) -> Answer {
+        Machine::commit(self.undone(), slot)
+    }
+
+    fn abort(&mut self, slot: u32) -> Answer {
+        let answer = Machine::abort(&mut self.undone().clone(), slot);
+        self.aborted = Some(slot).filter(|_| answer == Answer::Done);
+        answer
+    }
+
+    fn fields(&self) -> Vec<u32> {
+        self.machine.values()
+    }
+}
+
+/// Whether a list on a machine is right by demand 3, at its end, and by Ticket 4, after each call.
+fn right(machine: &mut dyn Copied, library: &Library, values: &[u32], random: &mut Random) -> (bool, bool) {
+    let (mut course, mut caller) = (Course::start(library, values), Caller::new(random, library));
+    let mut seen = true;
+    for k in 0..308 {
+        let call = if k < 300 { caller.next(random, library) } else { Call::Abort(k - 300) };
+        let answer = make(machine, call);
+        caller.told(call, answer);
+        course.feed(call, answer);
+        let committed = course.values();
+        seen &= course.seen_right() && ORDERS.iter().all(|order| machine.after_aborts(order) == committed);
+    }
+    (machine.fields() == course.values() && course.right(), seen)
+}
+
+/// Among how many of 60 lists a machine is seen to be wrong by demand 3, and by Ticket 4.
+fn seen_alone(machine: impl for<'a> Fn(&'a Library, Second<'a>) -> Box<dyn Copied + 'a>) -> (usize, usize) {
+    let lists: Vec<(bool, bool)> = (0..60).map(|seed| {
+        let mut random = Random::new(seed + 1_000_000);
+        let library = reference::read(&text_to_call(&mut random)).unwrap();
+        let values = values_for(&mut random, &library);
+        let mut machine = machine(&library, Second::start(&library, &values).unwrap());
+        right(&mut *machine, &library, &values, &mut random)
+    }).collect();
+    (lists.iter().filter(|list| !list.0).count(), lists.iter().filter(|list| !list.1).count())
+}
+
+#[test]
+fn ticket_4_sees_more_than_demand_3() {
+    assert_eq!(seen_alone(|_, machine| Box::new(machine)), (0, 0), "a difference where there is no fault");
+    let viewed = |reads_open: bool| {
+        seen_alone(move |library, machine| Box::new(Viewed { library, machine, reads_open, messages: Vec::new(), running: false }))
+    };
+    let late = seen_alone(|_, machine| Box::new(Late { machine, aborted: None }));
+    let (open, committed) = (viewed(true), viewed(false));
+    for (fault, counts) in [("a viewer reads what is open", open), ("a viewer reads what is committed", committed), ("undoes late", late)] {
+        let (demand_3, ticket_4) = counts;
+        let seen = format!("{fault}: seen by demand 3 in {demand_3} of 60 lists, by Ticket 4 in {ticket_4}");
+        println!("{seen}");
+        assert!(demand_3 < 4 && ticket_4 >= 6, "{seen}");
     }
 }

@@ -19,9 +19,32 @@ pub fn text_to_call(random: &mut Random) -> Vec<u8> {
     loop {
         let found = text(random, size);
         if any || lively(&found) {
-            return found;
+            return if random.one_in(2) { telling(random, found) } else { found };
         }
     }
+}
+
+/// The text with methods that tell a field in their last statement, and some that alter one before it, if that keeps to the limits.
+fn telling(random: &mut Random, text: Vec<u8>) -> Vec<u8> {
+    let library = reference::read(&text).expect("an accepted text");
+    let (mut told, mut fields) = (String::new(), Vec::new());
+    for line in std::str::from_utf8(&text).unwrap().split_inclusive('\n') {
+        let words: Vec<&str> = line.split_whitespace().collect();
+        match words[..] {
+            ["class", name, ..] => fields = library.fields(name),
+            ["end"] if !fields.is_empty() => {
+                if random.one_in(2) {
+                    let field = &random.pick(&fields).1;
+                    told += &format!("set {field} + {field} 1\n");
+                }
+                told += &format!("reply {}\n", random.pick(&fields).1);
+            }
+            _ => {}
+        }
+        told += line;
+    }
+    let told = told.into_bytes();
+    if reference::read(&told).is_ok() { told } else { text }
 }
 
 /// The text sets a field in three places, and has at least two objects.

@@ -1,4 +1,5 @@
-//! The plain course of demand 3: committed transactions, one after another in commit order.
+//! The plain course of demand 3: committed transactions, one after another in commit order; and the answers that every transaction
+//! got beside those it would get running alone (document 02, Ticket 4).
 
 use crate::machine::{fields_of, message, values_of, Answer, Call, Fields, Message, OnObject, Step};
 use crate::text::Library;
@@ -10,7 +11,16 @@ pub struct Course<'a> {
     latest: Vec<Option<Message>>,
     lists: Vec<Vec<(Message, u32)>>,
     /// The answers in the lists at their commits, each with the one that its run gives.
-    pub compared: Vec<(u32, Option<u32>)>,
+    pub compared: Compared,
+    /// Those in the lists at an abort or a stop.
+    pub undone: Compared,
+}
+
+/// Answers, each with the one of the same send run alone; none where that would be stopped.
+pub type Compared = Vec<(u32, Option<u32>)>;
+
+fn all_right(compared: &Compared) -> bool {
+    compared.iter().all(|&(got, run)| run == Some(got))
 }
 
 /// Runs a send alone on the fields; none where it would be stopped.
@@ -35,16 +45,28 @@ pub fn alone(library: &Library, message: &Message, fields: &mut Fields) -> Optio
 impl<'a> Course<'a> {
     pub fn start(library: &'a Library, values: &[u32]) -> Course<'a> {
         let fields = fields_of(library, values);
-        Course { library, fields, latest: vec![None; 8], lists: vec![Vec::new(); 8], compared: Vec::new() }
+        Course { library, fields, latest: vec![None; 8], lists: vec![Vec::new(); 8], compared: Vec::new(), undone: Vec::new() }
     }
 
     pub fn values(&self) -> Vec<u32> {
         values_of(self.library, &self.fields)
     }
 
+    /// Runs a slot's list alone, right after the transactions committed so far: its answers compared, and the fields at its end.
+    fn run(&self, slot: u32) -> (Compared, Fields) {
+        let mut fields = self.fields.clone();
+        let run = |(message, got): &(Message, u32)| (*got, alone(self.library, message, &mut fields));
+        let compared = self.lists[slot as usize].iter().map(run).collect();
+        (compared, fields)
+    }
+
+    /// Takes note of a call and its answer.
     pub fn feed(&mut self, call: Call, answer: Answer) {
         match (call, answer) {
-            (Call::Abort(s), Answer::Done) | (Call::Step(s), Answer::Stopped) => self.lists[s as usize].clear(),
+            (Call::Abort(s), Answer::Done) | (Call::Step(s), Answer::Stopped) => {
+                self.undone.extend(self.run(s).0);
+                self.lists[s as usize].clear();
+            }
             (Call::Send { slot, target, method, argument }, Answer::Done) => {
                 self.latest[slot as usize] = message(self.library, target, method, argument);
             }
@@ -53,17 +75,23 @@ impl<'a> Course<'a> {
                 self.lists[s as usize].push((latest, v));
             }
             (Call::Commit(s), Answer::Done) => {
-                for (message, got) in std::mem::take(&mut self.lists[s as usize]) {
-                    let run = alone(self.library, &message, &mut self.fields);
-                    self.compared.push((got, run));
-                }
+                let (compared, fields) = self.run(s);
+                self.compared.extend(compared);
+                self.fields = fields;
+                self.lists[s as usize].clear();
             }
             _ => {}
         }
     }
 
-    /// All answers compared so far are those of their runs.
+    /// Demand 3: all answers at their commits are those of their runs.
     pub fn right(&self) -> bool {
-        self.compared.iter().all(|&(got, run)| run == Some(got))
+        all_right(&self.compared)
+    }
+
+    /// Ticket 4: the answers of every transaction, committed, undone, stopped or open, are those it would get running alone right after
+    /// the transactions committed before its end, or before now.
+    pub fn seen_right(&self) -> bool {
+        self.right() && all_right(&self.undone) && (0..8).all(|slot| all_right(&self.run(slot).0))
     }
 }

@@ -4,6 +4,7 @@ use crate::syntax::{Action, Expression};
 use crate::text::{Library, Method};
 use crate::vectors::{commute, transitive, Mode};
 use std::collections::{BTreeMap, HashMap, HashSet};
+use std::rc::Rc;
 
 #[derive(Clone, Copy, Debug, PartialEq, Eq)]
 pub enum Target {
@@ -176,9 +177,11 @@ struct Transaction<'a> {
     sum: u32,
 }
 
+#[derive(Clone)]
 pub struct Machine<'a> {
     library: &'a Library,
-    vectors: HashMap<(String, String), Vec<Mode>>,
+    /// Shared by copies.
+    vectors: Rc<HashMap<(String, String), Vec<Mode>>>,
     pub fields: Fields,
     slots: Vec<Option<Transaction<'a>>>,
 }
@@ -238,7 +241,7 @@ impl<'a> Machine<'a> {
                 vectors.insert((class.name.clone(), method), vector);
             }
         }
-        Some(Machine { library, vectors, fields: fields_of(library, values), slots: vec![None; 8] })
+        Some(Machine { library, vectors: Rc::new(vectors), fields: fields_of(library, values), slots: vec![None; 8] })
     }
 
     pub fn values(&self) -> Vec<u32> {

@@ -1,0 +1,141 @@
+-- Ticket 4 over what the entries answered and left: what the tablets saw, at every moment of any list of calls, whatever it leaves
+-- open.
+use Prim.Native.Nat.{ℕ, suc, _<_}
+use mathlib.Core.Path.{_≡_, refl, sym, ap, ap₂, subst, _∙_}
+use mathlib.Core.List.{List, _++_, map, map-append}
+use lib.ListN.{length}
+use Rattle.model.specs.Read.{library}
+use Rattle.model.specs.Vector.{Program}
+use Rattle.model.specs.Service.{Answer, done, stopped, World, opened, Transaction, runCalls, startCourse, comparedIn}
+use Rattle.model.specs.Machine.{Call, service, step, abort}
+use Rattle.model.specs.Course.{Course, course}
+use Rattle.laws.specs.Basics.{All, In}
+use Rattle.twophase.specs.Claims.{Right}
+use Rattle.twophase.specs.Moves.{IsOpen, Ends, moves, ends-open}
+use Rattle.twophase.specs.Aborts.{aborts-close, aborts-fields, fed-append}
+use Rattle.theory.specs.VectorLaws.{program-compiled}
+use Rattle.theory.specs.CommitOrder.{left}
+use Rattle.machine_words.specs.Calls.{tablesOf, rowOf, phaseOf}
+use Rattle.machine_refinement.specs.Rep.{SlotRep, Rep, Fresh}
+use Rattle.machine_refinement.specs.State.{open-phase}
+use Rattle.machine_refinement.specs.Course.{AfterAll, calledAll, all-refine}
+use Rattle.machine_refinement.specs.Moment.{notesBack, AtMoment, at-moment}
+use Rattle.machine_checks.specs.declared.Outcome.{Outcome}
+use Rattle.machine_checks.specs.Told.{told}
+use Rattle.cishmolaq.specs.declared.Answer as Start
+use Rattle.model.specs.Told as Entry
+use Rattle.cishmolaq.specs.Answers.{said, Begins}
+use Rattle.cishmolaq.specs.Promises.{Does}
+use Rattle.cishmolaq.specs.Made.{Made, none, then, made-is}
+use Rattle.cishmolaq.specs.PlainCourse.{programOf, start-fresh, made-rep, NothingOpen, all-closed, demand-3}
+
+-- ---- lists of calls made
+
+-- One list of calls after another.
+made-append : {text ws values ws₁ values₁ ws₂ values₂ : List ℕ} {cs ds : List Call} {rs ss : List Outcome}
+    → Made text ws values cs rs ws₁ values₁ → Made text ws₁ values₁ ds ss ws₂ values₂ → Made text ws values (cs ++ ds) (rs ++ ss) ws₂ values₂
+made-append none n = n
+made-append (then d m) n = then d (made-append m n)
+
+-- An answer for each call.
+made-count : {text ws values ws′ values′ : List ℕ} {cs : List Call} {rs : List Outcome} → Made text ws values cs rs ws′ values′ → length (map told rs) ≡ length cs
+made-count none = refl
+made-count (then d m) = ap suc (made-count m)
+
+-- ---- Ticket 4
+
+-- The answers that a slot's transaction got "are those it would get running alone" on the course's fields, that is, right after the
+-- transactions committed so far: each send of its list, run in order, gives its answer.
+abbrev pub GotAlone : (text : List ℕ) → Course (service (programOf text)) → ℕ → Type 0
+GotAlone text x s = All Right (comparedIn (service (programOf text)) (x .slots s .list) (x .fields))
+
+-- Slot s is open.
+abbrev pub OpenIn : List ℕ → ℕ → Type 0
+OpenIn ws s = (s < 8) × (phaseOf (rowOf ws s) ≡ 0 → ⊥)
+
+-- What Ticket 4 requires of a list of calls after a start on `values`, by their answers and by what they left.
+pub record Seen (text values : List ℕ) (cs : List Call) (rs : List Outcome) (ws′ values′ : List ℕ) : Type 0 where
+  -- "At each moment, undoing all open transactions must give the fields of the committed ones run in commit order": by their notes ..
+  pub undone : notesBack ws′ 8 values′ ≡ course text values cs (map told rs) .fields
+  -- .. and by the calls: once every open slot was aborted, in whatever order, none is open and the values are the course's.
+  pub aborted : (ss : List ℕ) → ((s : ℕ) → OpenIn ws′ s → In s ss) → {rs₂ : List Outcome} {ws₂ values₂ : List ℕ}
+      → Made text ws′ values′ (map abort ss) rs₂ ws₂ values₂ → NothingOpen ws₂ × (values₂ ≡ course text values cs (map told rs) .fields)
+  -- "The answers that any transaction got": "still open", alone right after those committed "before now" ..
+  pub open-alone : (s : ℕ) → OpenIn ws′ s → GotAlone text (course text values cs (map told rs)) s
+  -- .. "later undone" and "stopped", alone right after those "committed before its end", the call that ends it being the next ..
+  pub undone-alone : (s : ℕ) {r : Outcome} {ws₂ values₂ : List ℕ} → Does text ws′ values′ (abort s) r ws₂ values₂ → told r ≡ done
+      → GotAlone text (course text values cs (map told rs)) s
+  pub stopped-alone : (s : ℕ) {r : Outcome} {ws₂ values₂ : List ℕ} → Does text ws′ values′ (step s) r ws₂ values₂ → told r ≡ stopped
+      → GotAlone text (course text values cs (map told rs)) s
+  -- .. and those that are committed.
+  pub committed-alone : All Right (course text values cs (map told rs) .compared)
+
+-- What the tablets saw, after any list of calls.
+pub what-was-seen : (text values state : List ℕ) (r : Start.Answer) (ws : List ℕ) → Begins text values state r ws → said r ≡ Entry.done 0
+    → {cs : List Call} {rs : List Outcome} {ws′ values′ : List ℕ} → Made text ws values cs rs ws′ values′ → Seen text values cs rs ws′ values′
+unfolding course
+what-was-seen text values state r ws begins e {cs} {rs} {ws′} {values′} made =
+    record {
+      undone = ap₂ (λ (l k : List ℕ). notesBack l 8 k) (m .1) (m .2) ∙ now .undone ∙ ap (λ (l : List Answer). course text values cs l .fields) answers;
+      aborted = λ ss all more. let shut = closes ss all more in (shut, values-are ss more shut);
+      open-alone = λ s o. alone s o;
+      undone-alone = λ s d f. ended s (subst (λ (a : Answer). Ends (service p) w (abort s) a) (sym (d .says p w rep) ∙ f) (ends-open (service p) w (moves (service p) w (abort s))));
+      stopped-alone = λ s d f. ended s (subst (λ (a : Answer). Ends (service p) w (step s) a) (sym (d .says p w rep) ∙ f) (ends-open (service p) w (moves (service p) w (step s))));
+      committed-alone = subst (λ (l : List Answer). All Right (course text values cs l .compared)) answers (now .committed-alone);
+    }
+  where
+    p : Program
+    p = programOf text
+
+    start : Fresh text ws values p
+    start = start-fresh text values state r ws begins e
+
+    x : AfterAll
+    x = calledAll text ws values cs
+
+    m : (map told rs ≡ x .answers) × (ws′ ≡ x .words) × (values′ ≡ x .values)
+    m = made-is made
+
+    answers : x .answers ≡ map told rs
+    answers = sym (m .0)
+
+    now : AtMoment p values cs x
+    now = at-moment text ws values p (program-compiled (library text)) start cs
+
+    w : World (service p)
+    w = left p values cs
+
+    rep : Rep text ws′ values′ p w
+    rep = made-rep text values state r ws begins e made
+
+    alone : (s : ℕ) → OpenIn ws′ s → GotAlone text (course text values cs (map told rs)) s
+    alone s o =
+        subst (λ (l : List Answer). GotAlone text (course text values cs l) s) answers
+        (now .open-alone s (o .0) (λ z. o .1 (ap (λ (l : List ℕ). phaseOf (rowOf l s)) (m .1) ∙ z)))
+
+    -- A slot that is open in the world is open in the words.
+    opened-in : (s : ℕ) → s < 8 → (t : Transaction (service p)) → w .slots s ≡ opened t → OpenIn ws′ s
+    opened-in s h t q = (h, open-phase text (tablesOf ws′) p (rowOf ws′ s) t (subst (SlotRep text (tablesOf ws′) p (rowOf ws′ s)) q (rep .slots s h)))
+
+    ended : (s : ℕ) → IsOpen (service p) w s → GotAlone text (course text values cs (map told rs)) s
+    ended s o = alone s (opened-in s (o .2) (o .0) (o .1))
+
+    closes : (ss : List ℕ) → ((s : ℕ) → OpenIn ws′ s → In s ss) → {rs₂ : List Outcome} {ws₂ values₂ : List ℕ}
+        → Made text ws′ values′ (map abort ss) rs₂ ws₂ values₂ → NothingOpen ws₂
+    closes ss all {ws₂ = ws₂} {values₂ = values₂} more =
+        let n = made-is more in
+        let w₂ = runCalls (service p) w (map abort ss) .1 in
+        let y = calledAll text ws′ values′ (map abort ss) in
+        let rep₂ : Rep text ws₂ values₂ p w₂ =
+        subst (λ (l : List ℕ). Rep text l values₂ p w₂) (sym (n .1))
+        (subst (λ (l : List ℕ). Rep text (y .words) l p w₂) (sym (n .2)) (all-refine text ws′ values′ p w rep (map abort ss) .1)) in
+        all-closed text ws₂ values₂ p w₂ rep₂ (aborts-close (service p) ss w (λ s h t q. all s (opened-in s h t q)))
+
+    values-are : (ss : List ℕ) {rs₂ : List Outcome} {ws₂ values₂ : List ℕ} → Made text ws′ values′ (map abort ss) rs₂ ws₂ values₂ → NothingOpen ws₂
+        → values₂ ≡ course text values cs (map told rs) .fields
+    values-are ss {rs₂} more shut =
+        demand-3 text values state r ws begins e (made-append made more) shut .same-fields
+        ∙ ap (λ (l : List Answer). course text values (cs ++ map abort ss) l .fields) (map-append told rs rs₂)
+        ∙ ap (λ (c : Course (service p)). c .fields)
+        (fed-append (service p) cs (map abort ss) (startCourse (service p) values) (map told rs) (map told rs₂) (made-count made))
+        ∙ aborts-fields (service p) ss (course text values cs (map told rs)) (map told rs₂)
