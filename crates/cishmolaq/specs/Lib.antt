@@ -7,3 +7,4 @@ pub mod Promises
 pub mod Made
 pub mod PlainCourse
 pub mod Seen
+pub mod Steps

@@ -16,12 +16,13 @@ pub enum Said {
     Answered(u32),
 }
 
-// Counts one more step on this object, in 64 bits; the word holds it modulo 2^32.
+// Counts one more step on this object, in 16 bits.
 fn count_step(row: &mut [u32])
     ensures { λ _. ⌜ now (row .exit) ≡ stepped (now (row .entry)) ⌝ }
 {
-    let steps = memory::get(row, layout::STEPS_AT) as u64 + 1;
-    memory::put(row, layout::STEPS_AT, (steps % 4294967296) as u32);
+    let steps = (memory::get(row, layout::STEPS_AT) % 65536) as u16;
+    let more = std::num::wrapping_add_u16(steps, 1);
+    memory::put(row, layout::STEPS_AT, more as u32);
 }
 
 // Takes the latest activation on to its next statement.

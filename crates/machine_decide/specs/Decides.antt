@@ -1,18 +1,19 @@
 -- The turn that is decided, test by test, with names for what the code has read by then.
 use Prim.Native.Nat.{ℕ, _+_, _%_, _≤_, _<_}
-use mathlib.Core.Path.{_≡_, refl}
+use mathlib.Core.Path.{_≡_, refl, ap, _∙_}
 use mathlib.Core.Bool.{Bool, true, false, _||_}
 use mathlib.Core.Option.{Option, none, some}
 use mathlib.Core.List.{List}
+use native.Mathlib.Numerals.{add-one}
 use native.Mathlib.Omega.{arith}
 use lib.ListN.{getD}
-use lib.Dec.{eqb, leb, ltb}
+use lib.Dec.{eqb, leb, ltb, leb·suc-suc}
 use borrow.Author.Tests.{eq-eqb, ne-eqb, lt-ltb, le-ltb, ltb-false}
 use Rattle.layout.specs.Layout.{depthAt, stepsAt, sumAt, objectAt, kindAt, numberAt, nameAt, nextAt, endAt, argAt, gotAt, replyAt}
 use Rattle.model.specs.Library.{Member}
 use Rattle.catalog.specs.View.{objectCount, statementCount}
 use Rattle.machine_words.specs.Row.{Turn, misfit, stop, back, next, answer, act, top}
-use Rattle.machine_words.specs.Turn.{targetThere, objectFrom, nextOn, nextTurn, lineTurn, endTurn, activationTurn, decided}
+use Rattle.machine_words.specs.Turn.{targetThere, objectFrom, nextOn, nextTurn, lineTurn, endTurn, activationTurn, decidedWide, stepsMost, decided}
 use Rattle.catalog.specs.declared.body.Body.{Body}
 use Rattle.catalog.specs.declared.body.Body.the-variants.{Found, Missing}
 use Rattle.catalog.specs.Bodies.{boundsOf}
@@ -76,18 +77,18 @@ module _ (text tables row values : List ℕ) (k i j n : ℕ) (p : k ≡ top row)
 
 -- The message is on object o of n.
 module _ (text tables row values : List ℕ) (n o : ℕ) (p : n ≡ objectCount tables) (q : o ≡ getD row objectAt 0) where
-  pub decided-answer : o ≡ n → answer (getD row sumAt 0) ≡ decided text tables row values
-  unfolding decided
+  pub decided-answer : o ≡ n → answer (getD row sumAt 0) ≡ decidedWide text tables row values
+  unfolding decidedWide
   decided-answer h = rw (← p, ← q, eq-eqb o n h)
 
   -- It has d activations.
   module _ (h : o ≡ n → ⊥) (d : ℕ) (r : d ≡ getD row depthAt 0) where
-    pub decided-misfit : (ltb n o || eqb d 0 || ltb 8 d) ≡ true → misfit ≡ decided text tables row values
-    unfolding decided
+    pub decided-misfit : (ltb n o || eqb d 0 || ltb 8 d) ≡ true → misfit ≡ decidedWide text tables row values
+    unfolding decidedWide
     decided-misfit t = rw (← p, ← q, ← r, ne-eqb o n h, t)
 
-    pub decided-on : (ltb n o || eqb d 0 || ltb 8 d) ≡ false → activationTurn text tables row values ≡ decided text tables row values
-    unfolding decided
+    pub decided-on : (ltb n o || eqb d 0 || ltb 8 d) ≡ false → activationTurn text tables row values ≡ decidedWide text tables row values
+    unfolding decidedWide
     decided-on t = rw (← p, ← q, ← r, ne-eqb o n h, t)
 
 -- After those tests the object is one of n.
@@ -97,3 +98,17 @@ decided-within n o d h t = let l = ltb-false n o (first (ltb n o) (eqb d 0) (ltb
     first : (a b c : Bool) → (a || b || c) ≡ false → a ≡ false
     first true b c e = e
     first false b c e = refl
+
+-- The 1,024th step, where the step before it was counted last.
+pub late-is : (steps : ℕ) {b : Bool} → leb 1023 steps ≡ b → leb 1024 (steps + 1) ≡ b
+late-is steps e = ap (leb 1024) (add-one steps) ∙ leb·suc-suc 1023 steps ∙ e
+
+module _ (text tables row values : List ℕ) (steps : ℕ) (x : steps ≡ getD row stepsAt 0) where
+  -- A count that 16 bits do not hold.
+  pub decided-past : stepsMost < steps → misfit ≡ decided text tables row values
+  unfolding decided
+  decided-past h = rw (← x, lt-ltb stepsMost steps h)
+
+  pub decided-counted : steps ≤ stepsMost → decidedWide text tables row values ≡ decided text tables row values
+  unfolding decided
+  decided-counted h = rw (← x, le-ltb stepsMost steps h)

@@ -7,9 +7,12 @@ use catalog::body::Body;
 ghost use Prim.Native.Nat.{_<_};
 ghost use mathlib.Core.Path.{_≡_};
 ghost use lib.ListN.{getD};
-ghost use Rattle.layout.specs.Layout.{objectAt};
-ghost use Rattle.machine_words.specs.Turn.{nextTurn, endTurn, activationTurn, decided};
+ghost use Rattle.layout.specs.Layout.{stepsAt, objectAt};
+ghost use Rattle.machine_words.specs.Turn.{nextTurn, endTurn, activationTurn, decidedWide, decided};
 ghost use Rattle.machine_decide.specs.Said.{saidTurn};
+
+// What 16 bits hold at most.
+const STEPS_MOST: u32 = 65535;
 
 // The next step of a running message: see `Turn` in crates/machine_words/specs/Row.antt.
 pub enum Turn {
@@ -57,9 +60,9 @@ fn end_turn(text: &[u8], tables: &[u32], row: &[u32], value: u32) -> Turn
 }
 
 // The turn of the latest activation, which must be within the text's statements, with one left or none. An object's 1,024th step
-// stops the message unless it ends the object; it is counted in 64 bits.
-fn activation_turn(text: &[u8], tables: &[u32], row: &[u32], values: &[u32]) -> Turn
-    requires { ⌜ getD (now row) objectAt 0 < 64 ⌝ }
+// stops the message unless it ends the object; `steps` are done.
+fn activation_turn(text: &[u8], tables: &[u32], row: &[u32], values: &[u32], steps: u16) -> Turn
+    requires { ⌜ (getD (now row) objectAt 0 < 64) × (steps ≡ getD (now row) stepsAt 0) ⌝ }
     ensures { λ r. ⌜ saidTurn r ≡ activationTurn (now (text .entry)) (now (tables .entry)) (now (row .entry)) (now (values .entry)) ⌝ }
 {
     let activation = machine_words::top(row);
@@ -68,7 +71,7 @@ fn activation_turn(text: &[u8], tables: &[u32], row: &[u32], values: &[u32]) -> 
     if (end < next) | (catalog::statement_count(tables) < end) {
         return Turn::Misfit;
     }
-    let late = 1024 <= memory::get(row, layout::STEPS_AT) as u64 + 1;
+    let late = 1023 <= steps;
     if next == end {
         let value = machine_words::act(row, activation, layout::REPLY_AT);
         if activation == 0 {
@@ -89,9 +92,10 @@ fn activation_turn(text: &[u8], tables: &[u32], row: &[u32], values: &[u32]) -> 
     line::line_turn(text, tables, values, object, depth, next, arg, got)
 }
 
-// The next step of the message that a row runs; past the last object it answers.
-pub fn decide(text: &[u8], tables: &[u32], row: &[u32], values: &[u32]) -> Turn
-    ensures { λ r. ⌜ saidTurn r ≡ decided (now (text .entry)) (now (tables .entry)) (now (row .entry)) (now (values .entry)) ⌝ }
+// The next step of the message that a row runs, with the steps done on its object; past the last object it answers.
+fn decide_counted(text: &[u8], tables: &[u32], row: &[u32], values: &[u32], steps: u16) -> Turn
+    requires { ⌜ steps ≡ getD (now row) stepsAt 0 ⌝ }
+    ensures { λ r. ⌜ saidTurn r ≡ decidedWide (now (text .entry)) (now (tables .entry)) (now (row .entry)) (now (values .entry)) ⌝ }
 {
     let object = memory::get(row, layout::OBJECT_AT);
     let count = catalog::object_count(tables);
@@ -102,5 +106,16 @@ pub fn decide(text: &[u8], tables: &[u32], row: &[u32], values: &[u32]) -> Turn
     if (count < object) | (depth == 0) | (8 < depth) {
         return Turn::Misfit;
     }
-    activation_turn(text, tables, row, values)
+    activation_turn(text, tables, row, values, steps)
+}
+
+// The next step of the message that a row runs. Its steps are counted in 16 bits; a count that they don't hold fits no message.
+pub fn decide(text: &[u8], tables: &[u32], row: &[u32], values: &[u32]) -> Turn
+    ensures { λ r. ⌜ saidTurn r ≡ decided (now (text .entry)) (now (tables .entry)) (now (row .entry)) (now (values .entry)) ⌝ }
+{
+    let steps = memory::get(row, layout::STEPS_AT);
+    if STEPS_MOST < steps {
+        return Turn::Misfit;
+    }
+    decide_counted(text, tables, row, values, steps as u16)
 }

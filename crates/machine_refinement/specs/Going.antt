@@ -76,6 +76,7 @@ record Onward (tables : List ℕ) (p : Program) (row row′ : List ℕ) (d : ℕ
   some : 0 < d
   few : d ≤ 8
   steps : getD row′ stepsAt 0 ≡ suc (getD row stepsAt 0)
+  early : suc (getD row stepsAt 0) < 1024
   activations : stackOf (p .library) row′ d ≡ stack
   inside : (j : ℕ) → j < d → Inside tables row′ j
   calls : (getD row calledAt 0 ≡ 0 → Shallow row) → getD row′ calledAt 0 ≡ 0 → Shallow row′
@@ -103,6 +104,7 @@ module _ (text tables : List ℕ) (p : Program) (row values : List ℕ) (size : 
           starts = λ j h. o .inside j (omega (arith, o)) .0;
           ends = λ j h. o .inside j (omega (arith, o)) .1;
           target = ap₂ (targetThere tables) w5 w6 ∙ runs .target;
+          early = omega (arith, o);
         };
         notes = note-same row row′ (λ i g h. o .tail i (omega arith) (omega arith));
         clean = clean-kept row row′ (λ i g h. o .head i (omega arith) h) (o .tail) (o .calls);
@@ -128,7 +130,7 @@ module _ (text tables : List ℕ) (p : Program) (row values : List ℕ) (size : 
   inside-kept : (row′ : List ℕ) (j : ℕ) → j < getD row depthAt 0 → act row′ j nextAt ≡ act row j nextAt → act row′ j endAt ≡ act row j endAt → Inside tables row′ j
   inside-kept row′ j h a b = omega (arith, runs .starts j h, runs .ends j h)
 
-  module _ (k : ℕ) (deep : getD row depthAt 0 ≡ suc k) (early : getD row stepsAt 0 < 1024) where
+  module _ (k : ℕ) (deep : getD row depthAt 0 ≡ suc k) (early : suc (getD row stepsAt 0) < 1024) where
     abbrev steps : ℕ
     steps = getD row stepsAt 0
 
@@ -150,7 +152,7 @@ module _ (text tables : List ℕ) (p : Program) (row values : List ℕ) (size : 
 
     step-is : (z : List ℕ) → getD z stepsAt 0 ≡ steps → stepped z ≡ set z stepsAt (suc steps)
     unfolding stepped
-    step-is z e = let m : (getD z stepsAt 0 + 1) % 4294967296 ≡ suc steps = omega arith in ap (set z stepsAt) m
+    step-is z e = let m : (getD z stepsAt 0 + 1) % 65536 ≡ suc steps = omega arith in ap (set z stepsAt) m
 
     pass-is : next < 4096 → passed row ≡ set row (at 0) (suc next)
     unfolding passed withAct
@@ -187,6 +189,7 @@ module _ (text tables : List ℕ) (p : Program) (row values : List ℕ) (size : 
           some = omega arith;
           few = few;
           steps = new-word one stepsAt (suc steps) (omega arith);
+          early = early;
           activations = ap₂ (λ (x : Activation) (xs : List Activation). x ∷ xs)
               (activation-is l row′ k (suc next) (act row k endAt) (act row k argAt) (act row k gotAt) (act row k replyAt) on
               (keep (at 1) (omega arith)) (keep (at 2) (omega arith)) (keep (at 3) (omega arith)) (keep (at 4) (omega arith)))
@@ -232,6 +235,7 @@ module _ (text tables : List ℕ) (p : Program) (row values : List ℕ) (size : 
           some = omega arith;
           few = few;
           steps = new-word two stepsAt (suc steps) (omega arith);
+          early = early;
           activations = ap₂ (λ (x : Activation) (xs : List Activation). x ∷ xs)
               (activation-is l row′ k end end (act row k argAt) (act row k gotAt) v over
               (keep (at 1) (omega arith)) (keep (at 2) (omega arith)) (keep (at 3) (omega arith))
@@ -303,6 +307,7 @@ module _ (text tables : List ℕ) (p : Program) (row values : List ℕ) (size : 
             some = omega arith;
             few = room;
             steps = new-word deeper stepsAt (suc steps) (omega arith);
+            early = early;
             activations = ap₂ (λ (y : Activation) (xs : List Activation). y ∷ xs)
                 (activation-same l withCallee row′ (suc k) (λ i g h. behind i (omega arith)) ∙ act-opened passedOn (suc k) first end argument l (omega arith))
                 (ap₂ (λ (x : Activation) (xs : List Activation). x ∷ xs)
@@ -320,7 +325,7 @@ module _ (text tables : List ℕ) (p : Program) (row values : List ℕ) (size : 
 
   -- ---- the end of a callee's body: its reply goes to the caller
 
-  module _ (j v : ℕ) (deep : getD row depthAt 0 ≡ suc (suc j)) (early : getD row stepsAt 0 < 1024) where
+  module _ (j v : ℕ) (deep : getD row depthAt 0 ≡ suc (suc j)) (early : suc (getD row stepsAt 0) < 1024) where
     abbrev caller : ℕ
     caller = activationsAt + j * activationWords + 3
 
@@ -358,6 +363,7 @@ module _ (text tables : List ℕ) (p : Program) (row values : List ℕ) (size : 
           some = omega arith;
           few = omega arith;
           steps = new-word two stepsAt (suc s) (omega arith);
+          early = early;
           activations = ap₂ (λ (x : Activation) (xs : List Activation). x ∷ xs)
               (activation-is l row′ j (act row j nextAt) (act row j endAt) (act row j argAt) v (act row j replyAt)
               (keep (activationsAt + j * activationWords + 0) (omega arith)) (keep (activationsAt + j * activationWords + 1) (omega arith)) (keep (activationsAt + j * activationWords + 2) (omega arith))

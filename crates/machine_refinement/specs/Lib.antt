@@ -10,6 +10,7 @@ pub mod Visits
 pub mod Outcomes
 pub mod Statements
 pub mod Step
+pub mod Counts
 pub mod Locks
 pub mod Clashes
 pub mod RowTest

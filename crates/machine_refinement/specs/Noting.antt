@@ -160,7 +160,7 @@ module _ (row : List ℕ) (size : length row ≡ rowWords) (k v : ℕ) (few : k 
 
 -- The turn that sets a value.
 pub assign-goes : (text tables : List ℕ) (p : Program) (row values : List ℕ) → length row ≡ rowWords → Running tables p row → (k : ℕ) → getD row depthAt 0 ≡ suc k
-    → getD row stepsAt 0 < 1024 → act row k nextAt < act row k endAt → (i v : ℕ) → i < valuesMost
+    → suc (getD row stepsAt 0) < 1024 → act row k nextAt < act row k endAt → (i v : ℕ) → i < valuesMost
     → Goes text tables p row values (goingTo (skipRow (notedRow row i (getD values i 0))) (set values i v))
     (onwardRun (runOf text p row) (withRest (activationOf (p .library) row k) (between (p .library) (suc (act row k nextAt)) (act row k endAt))
     ∷ stackOf (p .library) row k)) (store i v)

@@ -163,7 +163,7 @@ pub record Fits (text tables : List ℕ) (p : Program) : Type 0 where
 -- ---- slots and worlds
 
 -- What holds of a row whose message runs: its target exists; it is on an object of the target, with 1 to 8 activations, each
--- within the text's statements, or past the last object.
+-- within the text's statements, or past the last object; and fewer than 1,024 steps were taken on its object.
 pub record Running (tables : List ℕ) (p : Program) (row : List ℕ) : Type 0 where
   pub depth : getD row depthAt 0 ≤ 8
   pub within : getD row objectAt 0 ≤ objectCount tables
@@ -172,6 +172,7 @@ pub record Running (tables : List ℕ) (p : Program) (row : List ℕ) : Type 0 w
   pub starts : (k : ℕ) → k < getD row depthAt 0 → act row k nextAt ≤ act row k endAt
   pub ends : (k : ℕ) → k < getD row depthAt 0 → act row k endAt ≤ statementCount tables
   pub target : targetThere tables (getD row kindAt 0) (getD row numberAt 0) ≡ true
+  pub early : getD row stepsAt 0 < 1024
 
 -- What runs in an open slot: nothing (phase 1), or the run that the row represents (phase 2), whose names are known.
 abbrev pub NowRep : List ℕ → List ℕ → Program → List ℕ → Option Run → Type 0

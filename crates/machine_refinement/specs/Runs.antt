@@ -141,4 +141,5 @@ module _ (text : List ℕ) (p : Program) where
               omega arith;
           ends = λ k h. let e = runs .ends k (omega arith) in let q = stack (activationsAt + k * activationWords + 1) (omega arith) (omega arith) in omega arith;
           target = ap₂ (targetThere tables) w5 w6 ∙ runs .target;
+          early = omega (arith, alike 2 (omega arith) (omega arith), runs .early);
         }

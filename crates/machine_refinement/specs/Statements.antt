@@ -121,24 +121,21 @@ module _ (text tables : List ℕ) (p : Program) (fits : Fits text tables p) (row
         worth-is : (e : Expression) → strange (classOn p o) e ≡ false → value e ≡ some (valueOf fields (act row k argAt) (act row k gotAt) e)
         worth-is e h = value-is text tables p fits o here values (act row k argAt) (act row k gotAt) e h
 
-        soon : getD row stepsAt 0 < 1024
-        soon = omega arith
-
         skips : Now skip (limited (onward r (a′ ∷ below) idle))
         unfolding carried
-        skips = by refl (early-on text p row (a′ ∷ below) idle early) (record { matches = skip-goes text tables p row values size runs k deep soon more })
+        skips = by refl (early-on text p row (a′ ∷ below) idle early) (record { matches = skip-goes text tables p row values size runs k deep early more })
 
         assigns : (i v : ℕ) → i < valuesMost → Now (assign i v) (limited (onward r (a′ ∷ below) (store i v)))
         unfolding carried
         assigns i v h =
             by refl (early-on text p row (a′ ∷ below) (store i v) early)
-            (record { matches = assign-goes text tables p row values size runs k deep soon more i v h })
+            (record { matches = assign-goes text tables p row values size runs k deep early more i v h })
 
         replies : (v : ℕ) → Now (reply v) (limited (onward r (replied a′ v ∷ below) idle))
         unfolding carried
         replies v =
             by refl (early-on text p row (replied a′ v ∷ below) idle early)
-            (record { matches = reply-goes text tables p row values size runs k deep soon v })
+            (record { matches = reply-goes text tables p row values size runs k deep early v })
 
         -- A self-call to a body, by its first statement and the one past its last.
         calls : (d : ℕ) (m : Name) (v : ℕ) → among (classAt l d .methods) m ≡ true
@@ -166,7 +163,7 @@ module _ (text tables : List ℕ) (p : Program) (fits : Fits text tables p) (row
             go false f =
                 by (there false f) (then false f ∙ early-on text p row started idle early)
                 (record {
-                  matches = call-goes text tables p row values size runs k deep soon (b .first) (b .first + b .count) v more (omega arith)
+                  matches = call-goes text tables p row values size runs k deep early (b .first) (b .first + b .count) v more (omega arith)
                       (body-end text tables p fits d m) (leb-false 8 (suc k) f);
                 })
 

@@ -1,7 +1,7 @@
 -- One step: on a row whose message runs, what the words decide and carry out matches the model's turn.
 use Prim.Native.Nat.{ℕ, suc, _+_, _-_, _≤_, _<_}
 use native.Mathlib.Omega.{arith}
-use mathlib.Core.Path.{_≡_, refl, ap, ap₂, _∙_}
+use mathlib.Core.Path.{_≡_, refl, sym, ap, ap₂, subst, _∙_}
 use mathlib.Core.Logic.{_≢_}
 use mathlib.Core.Bool.{Bool, true, false, cond, _||_}
 use mathlib.Core.List.{List, [], _∷_}
@@ -17,7 +17,7 @@ use Rattle.model.specs.Message as Model
 use Rattle.theory.specs.NamedRuns.{NamedRun}
 use Rattle.catalog.specs.View.{objectCount, statementCount}
 use Rattle.machine_words.specs.Row.{Turn, misfit, stop, back, answer, act, top, carried}
-use Rattle.machine_words.specs.Turn.{objectFrom, nextTurn, lineTurn, endTurn, activationTurn, decided}
+use Rattle.machine_words.specs.Turn.{objectFrom, nextTurn, lineTurn, endTurn, activationTurn, decidedWide, stepsMost, decided}
 use Rattle.machine_refinement.specs.Rep.{Fits, Running, messageOf, activationOf, stackOf, objectsFrom, runOf}
 use Rattle.machine_refinement.specs.Objects.{objects-past, next-some, next-none}
 use Rattle.machine_refinement.specs.Runs.{between-none}
@@ -25,6 +25,11 @@ use Rattle.machine_refinement.specs.Outcomes.{Comes, by, answers, halts,
 use Rattle.machine_refinement.specs.Going.{Matches, back-goes}
 use Rattle.machine_refinement.specs.Visits.{next-turn, next-goes}
 use Rattle.machine_refinement.specs.Statements.{goes-comes}
+
+-- 16 bits hold the count of every message that runs.
+pub same-turn : (text tables row values : List ℕ) → getD row stepsAt 0 < 1024 → decided text tables row values ≡ decidedWide text tables row values
+unfolding decided
+same-turn text tables row values early = rw (le-ltb stepsMost (getD row stepsAt 0) (omega arith))
 
 module _ (text tables : List ℕ) (p : Program) (fits : Fits text tables p) (row values : List ℕ) (size : length row ≡ rowWords) (runs : Running tables p row)
     (named : NamedRun p (runOf text p row)) (long : length values ≡ getD tables valueCountAt 0) (few : length values ≤ valuesMost) where
@@ -176,9 +181,9 @@ module _ (text tables : List ℕ) (p : Program) (fits : Fits text tables p) (row
   unfolding runOf
   no-object h = turn-is text p row values [] (r .activations) (objects-past text tables p fits (messageOf text row .target) o h) refl
 
-  decided-comes : Now (decided text tables row values) (turn p r values)
-  unfolding decided
-  decided-comes = go (eqb o (objectCount tables)) refl
+  wide-comes : Now (decidedWide text tables row values) (turn p r values)
+  unfolding decidedWide
+  wide-comes = go (eqb o (objectCount tables)) refl
     where
       on : Turn
       on = cond (ltb (objectCount tables) o || eqb (getD row depthAt 0) 0 || ltb 8 (getD row depthAt 0)) misfit (activationTurn text tables row values)
@@ -194,6 +199,9 @@ module _ (text tables : List ℕ) (p : Program) (fits : Fits text tables p) (row
           let t₂ : ltb 8 (getD row depthAt 0) ≡ false = le-ltb 8 (getD row depthAt 0) (runs .depth) in
           let active : on ≡ activationTurn text tables row values = rw (t₀, t₁, t₂) refl in
           by active refl (active-comes here (getD row depthAt 0 - 1) (omega arith))
+
+  decided-comes : Now (decided text tables row values) (turn p r values)
+  decided-comes = subst (λ (t : Turn). Now t (turn p r values)) (sym (same-turn text tables row values (runs .early))) wide-comes
 
   -- The step.
   pub step-matches : Matches text tables p row values (carried row values (decided text tables row values)) (turn p (runOf text p row) values)

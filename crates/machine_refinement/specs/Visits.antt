@@ -101,6 +101,7 @@ module _ (text tables : List ℕ) (p : Program) (fits : Fits text tables p) (row
           starts = λ j h. absurd (omega arith);
           ends = λ j h. absurd (omega arith);
           target = ap₂ (targetThere tables) w5 w6 ∙ there;
+          early = omega (arith, head-steps row size o sum 0);
         }
 
   -- ---- on an object of the target
@@ -191,6 +192,7 @@ module _ (text tables : List ℕ) (p : Program) (fits : Fits text tables p) (row
           starts = λ j h. only j (omega arith) .0;
           ends = λ j h. only j (omega arith) .1;
           target = ap₂ (targetThere tables) w5 w6 ∙ there;
+          early = omega (arith, behind 2 (omega arith), head-steps row size o sum 1);
         }
       where
         only : (j : ℕ) → j < 1 → Inside tables on j

@@ -57,9 +57,9 @@ unfoldable pub newAct : List ℕ → ℕ → ℕ → ℕ → ℕ → List ℕ
 unfolding withAct
 newAct row k first end argument = withAct (withAct (withAct (withAct (withAct row k 0 first) k 1 end) k 2 argument) k gotAt 0) k 4 0
 
--- The row with one more step, counted modulo 2^32 as the word holds it.
+-- The row with one more step, counted in 16 bits (02, Ticket 5).
 unfoldable pub stepped : List ℕ → List ℕ
-stepped row = set row stepsAt ((getD row stepsAt 0 + 1) % 4294967296)
+stepped row = set row stepsAt ((getD row stepsAt 0 + 1) % 65536)
 
 -- The row with the latest activation at its next statement.
 unfoldable pub passed : List ℕ → List ℕ

@@ -148,11 +148,21 @@ activationTurn text tables row values =
     (cond (eqb k 0) (endTurn text tables row (act row k replyAt)) (cond late stop (back (act row k replyAt))))
     (cond late stop (lineTurn text tables values (getD row objectAt 0) (getD row depthAt 0) (act row k nextAt) (act row k argAt) (act row k gotAt))))
 
--- "With no objects the first step answers 0": the message is past the last object.
-unfoldable pub decided : List ℕ → List ℕ → List ℕ → List ℕ → Turn
+-- "With no objects the first step answers 0": the message is past the last object. This is the turn where steps are counted in 64
+-- bits, which hold any word.
+unfoldable pub decidedWide : List ℕ → List ℕ → List ℕ → List ℕ → Turn
 unfolding activationTurn
-decided text tables row values =
+decidedWide text tables row values =
     let d = getD row depthAt 0 in
     let o = getD row objectAt 0 in
     cond (eqb o (objectCount tables)) (answer (getD row sumAt 0))
     (cond (ltb (objectCount tables) o || eqb d 0 || ltb 8 d) misfit (activationTurn text tables row values))
+
+-- What 16 bits hold at most.
+abbrev pub stepsMost : ℕ
+stepsMost = 65535
+
+-- Steps are counted in 16 bits (02, Ticket 5): a count that they do not hold is 24.
+unfoldable pub decided : List ℕ → List ℕ → List ℕ → List ℕ → Turn
+unfolding decidedWide
+decided text tables row values = cond (ltb stepsMost (getD row stepsAt 0)) misfit (decidedWide text tables row values)

@@ -86,8 +86,8 @@ fn calls_after(slot: u32) -> [Call; 12] {
     ]
 }
 
-fn edges(word: u32) -> [u32; 9] {
-    [0, 1, 31, 32, 33, 1 << 31, u32::MAX, word.wrapping_add(1), word.wrapping_sub(1)]
+fn edges(word: u32) -> [u32; 10] {
+    [0, 1, 31, 32, 33, 1_023, 1 << 31, u32::MAX, word.wrapping_add(1), word.wrapping_sub(1)]
 }
 
 fn add(all: &mut Counts, more: Counts) {
@@ -281,6 +281,25 @@ fn places_out_of_range() {
             let mut memory = after(&end);
             memory.put_word(row(layout::PHASE_AT), phase);
             assert_eq!(memory.call(call), Answer::Refused(24), "{call:?} in phase {phase}");
+        }
+    }
+}
+
+/// A count of steps that 16 bits do not hold. The largest that they hold stops the message, unless the step ends its object.
+#[test]
+fn counts_of_steps() {
+    for target in [Target::Object(0), Target::Domain(0)] {
+        for steps in 0..=6 {
+            let step_with = |count: u32| {
+                let mut memory = after(&running(target, steps));
+                memory.put_word(TABLE_WORDS + layout::STEPS_AT, count);
+                memory.call(Call::Step(0))
+            };
+            for count in [65_536, 65_537, 66_559, 131_071, 1 << 31, u32::MAX] {
+                assert_eq!(step_with(count), Answer::Refused(24), "count {count} after {steps} steps on {target:?}");
+            }
+            let right = if steps < 6 { Answer::Stopped } else { step_with(6) };
+            assert_eq!(step_with(65_535), right, "count 65535 after {steps} steps on {target:?}");
         }
     }
 }
