@@ -19,8 +19,12 @@ if [ $# -gt 0 ] || [ -f /dev/stdin ] || [ -p /dev/stdin ]; then
     [ ! -t 0 ] || say "call lines, please; the end of the input (Ctrl-D) prints the objects"
     play
 else
-    for board in left right; do
-        printf '%s\n' "samples/$board-board.calls"
-        play < "samples/$board-board.calls" | paste "samples/$board-board.calls" - | expand -t 24
-    done
+    show() {
+        printf '%s\n' "samples/$1-board.calls"
+        play < "samples/$1-board.calls" | paste "samples/$1-board.calls" - | expand -t 24
+    }
+    show left
+    show right
+    cp samples/tally.txt "$folder/lib.txt"
+    show tally
 fi

@@ -34,7 +34,7 @@ extern "C" {
 /* The longest text, in bytes. */
 #define CISHMOLAQ_LONGEST_TEXT 32768
 /* No text has a longer image, prints more, or has more values: buffers of these sizes always do. */
-#define CISHMOLAQ_LONGEST_IMAGE 38936
+#define CISHMOLAQ_LONGEST_IMAGE 40992
 #define CISHMOLAQ_LONGEST_TABLES 51200
 #define CISHMOLAQ_MOST_VALUES 2048
 
@@ -42,7 +42,13 @@ extern "C" {
  * Answers 0 if it is accepted, *line being 0; else 11 to 17, *line being the line of the fault. */
 uint32_t cishmolaq_check(const uint8_t *text, size_t text_length, size_t *line);
 
-/* Writes the image of a text into the front of `image`; what lies past it is left as it was.
+/* Writes the image of a text into the front of `image`; what lies past it is left as it was. The image begins with four pairs,
+ * each the offset and the length of a part; its numbers have 32 bits, the lowest byte first. The parts follow without gaps:
+ *   1. for each statement in text order its place in the text and its length, LF excluded;
+ *   2. for each class and method, in order, a read mask and a write mask, bit k being field k;
+ *   3. for each class and method a mask whose bit j says that it commutes with method j of the class;
+ *   4. for each class and method an add mask, of the fields that it adds to and neither reads nor sets.
+ * A field's bit is set in at most one of a method's read, write and add masks.
  * Answers 0, *detail being the image's length in bytes; or, with nothing written,
  *   11 to 17, *detail being the line;
  *   21  the buffer is shorter than the image, *detail being 0. */
@@ -133,7 +139,9 @@ uint32_t cishmolaq_step(const uint8_t *text, size_t text_length, uint32_t *state
 uint32_t cishmolaq_commit(const uint8_t *text, size_t text_length, uint32_t *state, size_t state_words, const uint32_t *values,
                           size_t value_count, uint32_t slot, uint32_t *detail);
 
-/* Puts back, in each field that the transaction set, the value before its first set, and closes the slot.
+/* Undoes the transaction and closes the slot. From a field that the transaction only added to, its additions are taken back,
+ * modulo 4,294,967,296; what others added to it stays. A field that the transaction set gets the value right before its first
+ * set, less what the transaction had added to it until then.
  * Answers 0; or 21, 24, 31, 32. */
 uint32_t cishmolaq_abort(const uint8_t *text, size_t text_length, uint32_t *state, size_t state_words, uint32_t *values,
                          size_t value_count, uint32_t slot, uint32_t *detail);

@@ -48,7 +48,7 @@ fn print_lines(text: &[u8]) {
 
 // Writes the image of the text, nothing where it is refused.
 fn print_image(text: &[u8]) {
-    let mut image = [0u8; 38936];
+    let mut image = [0u8; 40992];
     let answer = cishmolaq::compile(text, &mut image);
     print_done(&image, answer);
 }

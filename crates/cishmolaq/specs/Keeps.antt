@@ -1,7 +1,6 @@
 -- Demand 1 of the four calls, whatever is lent: what is altered where a number is given, what a number means, and what lies past
 -- the machine's words.
-use Prim.Native.Nat.{ℕ, zero, suc, _+_, _/_, _%_, _^_, _≤_, _<_}
-use lib.Bits.{bitOr}
+use Prim.Native.Nat.{ℕ, zero, suc, _+_, _/_, _%_, _≤_, _<_}
 use native.Mathlib.Omega.{arith}
 use mathlib.Core.Path.{_≡_, refl, _∙_}
 use mathlib.Core.Bool.{Bool, true, false, not, cond, _&&_}
@@ -10,8 +9,9 @@ use mathlib.Core.List.{List}
 use lib.ListN.{length, getD, drop, set, length-set}
 use lib.Dec.{eqb, leb, ltb, eqb·suc-zero}
 use borrow.Author.Tests.{leb-false, eqb-false, not-true}
-use Rattle.layout.specs.Layout.{valuesMost, changedAt, marksAt, notesAt, rowWords, stateWords}
+use Rattle.layout.specs.Layout.{valuesMost, changedAt, marksAt, setMarksAt, notesAt, rowWords, stateWords}
 use Rattle.model.specs.Base.{least}
+use Rattle.model.specs.Form.{Change}
 use Rattle.model.specs.Service.{Answer, done, going, answer, refuse, held, stopped}
 use Rattle.model.specs.Machine.{Call, send, step, commit, abort, Request, to, object, class, domain}
 use Rattle.laws.specs.Basics.{least-some}
@@ -20,7 +20,7 @@ use Rattle.laws.specs.Bits.{bit}
 use Rattle.catalog.specs.View.{objectWord, classCount, objectCount, memberCount}
 use Rattle.machine_words.specs.Row as Row
 use Rattle.model.specs.Undo.{putBack}
-use Rattle.machine_words.specs.Row.{Turn, noteAt, withAct, newAct, stepped, passed, notedRow, skipRow, callRow, replyRow, backRow, objectRow, freed, carried}
+use Rattle.machine_words.specs.Row.{Turn, noteAt, withAct, newAct, stepped, passed, isSet, noteWord, withMark, notedRow, skipRow, callRow, replyRow, backRow, objectRow, freed, carried}
 use Rattle.machine_words.specs.Turn.{decided}
 use Rattle.machine_words.specs.Request.{Wanted, lacking, rowMeets, locked, First, on, past, nowhere, firstOf, entered}
 use Rattle.machine_words.specs.Calls.{After, tablesOf, rowStart, rowOf, phaseOf, withRow, misfitOf, isStarted, refused, wanted, inTheWay, startedOr, grantedOr, sentTo, sentBy, laid, onClosed, onIdle, onRunning, slotIn, byPhase, called}
@@ -65,12 +65,13 @@ pub record Keeps (ws values : List ℕ) (s : ℕ) (x : After) : Type 0 where
 
 -- ---- each turn keeps the row's length
 
-noted-length : (row : List ℕ) (k v : ℕ) → length (notedRow row k v) ≡ length row
+noted-length : (row : List ℕ) (how : Change) (k x v : ℕ) → length (notedRow row how k x v) ≡ length row
 unfolding notedRow
-noted-length row k v = go (ltb k valuesMost) (bit (getD row (marksAt + k / 32) 0) (k % 32))
+noted-length row how k x v = go (ltb k valuesMost) (bit (getD row (setMarksAt + k / 32) 0) (k % 32))
   where
     new : List ℕ
-    new = set (set (set row changedAt 1) (marksAt + k / 32) (bitOr (getD row (marksAt + k / 32) 0) (2 ^ (k % 32)))) (notesAt + k) v
+    new =
+        set (withMark (withMark (set row changedAt 1) marksAt k true) setMarksAt k (isSet how)) (notesAt + k) (noteWord how (getD row (notesAt + k) 0) x v)
 
     go : (a b : Bool) → length (cond a (cond b row new) row) ≡ length row
     go false b = refl
@@ -82,7 +83,7 @@ unfolding carried skipRow callRow replyRow backRow objectRow newAct withAct step
 carried-length row values Row.misfit h = h
 carried-length row values Row.stop h = freed-long row h
 carried-length row values Row.skip h = simp length-set h
-carried-length row values (Row.assign k v) h = simp length-set (noted-length row k (getD values k 0) ∙ h)
+carried-length row values (Row.assign how k v) h = simp length-set (noted-length row how k (getD values k 0) v ∙ h)
 carried-length row values (Row.call first end a) h = simp length-set h
 carried-length row values (Row.reply v) h = simp length-set h
 carried-length row values (Row.back v) h = simp length-set h
@@ -165,7 +166,7 @@ module _ (text ws values : List ℕ) (s : ℕ) where
     steps Row.misfit = record { kept = (with-own ws s h, refl); past = carried-past Row.misfit; holder = tt; number = (omega arith, omega arith) }
     steps Row.stop = record { kept = tt; past = carried-past Row.stop; holder = tt; number = tt }
     steps Row.skip = record { kept = tt; past = carried-past Row.skip; holder = tt; number = tt }
-    steps (Row.assign k v) = record { kept = tt; past = carried-past (Row.assign k v); holder = tt; number = tt }
+    steps (Row.assign how k v) = record { kept = tt; past = carried-past (Row.assign how k v); holder = tt; number = tt }
     steps (Row.call first end a) = record { kept = tt; past = carried-past (Row.call first end a); holder = tt; number = tt }
     steps (Row.reply v) = record { kept = tt; past = carried-past (Row.reply v); holder = tt; number = tt }
     steps (Row.back v) = record { kept = tt; past = carried-past (Row.back v); holder = tt; number = tt }

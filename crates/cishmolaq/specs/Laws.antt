@@ -38,6 +38,7 @@ filled-masks text ws ws′ f size = record {
   read = λ c j h k. f .masks (omega arith) c j (known c h) (below c j h k) .read;
   write = λ c j h k. f .masks (omega arith) c j (known c h) (below c j h k) .write;
   commuting = λ c j h k. f .masks (omega arith) c j (known c h) (below c j h k) .commuting;
+  add = λ c j h k. f .masks (omega arith) c j (known c h) (below c j h k) .add;
 }
   where
     known : (c : ℕ) → c < classCount ws′ → c < classCount ws

@@ -5,19 +5,19 @@ use mathlib.Core.Path.{_≡_, refl, sym, ap, ap₂, subst, _∙_}
 use mathlib.Core.List.{List, [], _∷_, _++_, map, flatMap, append-nil, append-assoc}
 use native.Mathlib.Omega.{arith}
 use lib.ListN.{length, getD, length-map}
-use Rattle.layout.specs.Layout.{classNameAt, namesAt, kindWords, methodNamesAt, readMasksAt, writeMasksAt, commutingAt}
+use Rattle.layout.specs.Layout.{classNameAt, namesAt, kindWords, methodNamesAt, readMasksAt, writeMasksAt, commutingAt, addMasksAt}
 use Rattle.model.specs.Base.{bytes, upto}
 use Rattle.model.specs.Word.{Name}
 use Rattle.model.specs.Library.{Library, Member, Class, Placed, classAt, asRecorded, fieldNames, methodNames}
 use Rattle.model.specs.Vector.{Vector, program, vectorsOf, transitive, commute}
-use Rattle.model.specs.Image.{u32Bytes, readMask, writeMask, commuteMask, placesPart, masksPart, commutePart, withPairs, imageOf}
+use Rattle.model.specs.Image.{u32Bytes, readMask, writeMask, addMask, commuteMask, placesPart, masksPart, commutePart, addsPart, withPairs, imageOf}
 use Rattle.model.specs.Tables.{letters, yesOrNo, methodPrinted, methodsPrinted, classPrinted, programPrinted}
 use Rattle.catalog.specs.View.{nameOf, classWord, classCount, statementCount, memberCount, memberAt, membersOf, classOf, placedOf, libraryOf}
 use Rattle.laws.specs.Bits.{bit}
 use Rattle.laws.specs.Upto.{length-upto, getD-upto}
 use Rattle.catalog.specs.Look.{class-count, class-at, member-count}
 use Rattle.output.specs.Each.{numbers, map-upto, each-upto, each-listed, each-suc, each-same, listed}
-use Rattle.image.specs.Written.{placesFrom, eachMethod, masksFrom, commuteFrom, imageFrom, lettersFrom, lineFrom, tablesFrom}
+use Rattle.image.specs.Written.{placesFrom, eachMethod, masksFrom, commuteFrom, addsFrom, imageFrom, lettersFrom, methodLetters, lineFrom, tablesFrom}
 use Rattle.image.specs.Letters.{letters-are, flags-are}
 
 abbrev vectorsIn : Library → ℕ → List Vector
@@ -32,6 +32,7 @@ pub record Masks (ws : List ℕ) (l : Library) : Type 0 where
   pub write : (c j : ℕ) → c < classCount ws → j < memberCount ws c 1 → classWord ws c (writeMasksAt + j) ≡ writeMask (vectorIn l c j)
   pub commuting : (c j : ℕ) → c < classCount ws → j < memberCount ws c 1
       → classWord ws c (commutingAt + j) ≡ commuteMask (vectorsOf l (asRecorded l) c) (vectorIn l c j)
+  pub add : (c j : ℕ) → c < classCount ws → j < memberCount ws c 1 → classWord ws c (addMasksAt + j) ≡ addMask (vectorIn l c j)
 
 -- ---- a program by counting
 
@@ -98,11 +99,15 @@ module _ (text ws : List ℕ) where
     unfolding commuteFrom commutePart
     commuting-are = each-are (λ c j. u32Bytes (classWord ws c (commutingAt + j))) (λ vs v. u32Bytes (commuteMask vs v)) (λ c j h k i. u32Bytes (m .commuting c j h k i))
 
+    adds-are : addsFrom ws ≡ addsPart (program l)
+    unfolding addsFrom addsPart
+    adds-are = each-are (λ c j. u32Bytes (classWord ws c (addMasksAt + j))) (λ vs v. u32Bytes (addMask v)) (λ c j h k i. u32Bytes (m .add c j h k i))
+
     image-are : imageFrom ws ≡ imageOf (program l)
     unfolding imageFrom imageOf
     image-are =
         let p : placesFrom ws ≡ placesPart (program l .library) = places-are ∙ ap placesPart (sym (program-library l)) in
-        λ i. withPairs (p i) (masks-are i) (commuting-are i)
+        λ i. withPairs (p i) (masks-are i) (commuting-are i) (adds-are i)
 
 -- ---- the printed lines
 
@@ -147,9 +152,10 @@ module _ (text ws : List ℕ) (m : Masks ws (libraryOf text ws)) (c : ℕ) (know
       ∙ ap (λ (k : Class). length (k .fields)) (class-at text ws c known)
       ∙ member-count text ws c 0)
 
-  method-letters : (j : ℕ) → j < memberCount ws c 1
-      → lettersFrom (classWord ws c (readMasksAt + j)) (classWord ws c (writeMasksAt + j)) (memberCount ws c 0) ≡ letters (vectorIn (l text ws) c j)
-  method-letters j h = (λ i. lettersFrom (m .read c j known h i) (m .write c j known h i) (fields-long j h i)) ∙ letters-are (vectorIn (l text ws) c j)
+  method-letters : (j : ℕ) → j < memberCount ws c 1 → methodLetters ws c j ≡ letters (vectorIn (l text ws) c j)
+  unfolding methodLetters
+  method-letters j h =
+      (λ i. lettersFrom (m .read c j known h i) (m .write c j known h i) (m .add c j known h i) (fields-long j h i)) ∙ letters-are (vectorIn (l text ws) c j)
 
   method-flags : (j : ℕ) → j < memberCount ws c 1
       → map (λ i. yesOrNo (bit (classWord ws c (commutingAt + j)) i)) (numbers (memberCount ws c 1))

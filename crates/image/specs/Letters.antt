@@ -4,9 +4,9 @@ use mathlib.Core.Path.{_≡_, refl, sym, ap, _∙_}
 use mathlib.Core.Bool.{false, cond}
 use mathlib.Core.List.{List, [], _∷_, map}
 use lib.ListN.{length, getD, List·getD-map}
-use Rattle.model.specs.Mode.{Mode, Null, Read, Write, changes}
+use Rattle.model.specs.Mode.{Mode, Null, Read, Add, Write}
 use Rattle.model.specs.Vector.{Vector, commute}
-use Rattle.model.specs.Image.{onlyRead, readMask, writeMask, commuteMask}
+use Rattle.model.specs.Image.{isRead, isWrite, isAdd, readMask, writeMask, addMask, commuteMask}
 use Rattle.model.specs.Tables.{letter, letters, yesOrNo}
 use Rattle.laws.specs.Lists.{map-at}
 use Rattle.laws.specs.Bits.{bit, bit-mask}
@@ -16,24 +16,27 @@ use Rattle.image.specs.Written.{letterFrom, lettersFrom}
 
 -- ---- letters
 
-letter-is : (m : Mode) → cond (changes m) 87 (cond (onlyRead m) 82 78) ≡ letter m
+letter-is : (m : Mode) → cond (isWrite m) 87 (cond (isRead m) 82 (cond (isAdd m) 65 78)) ≡ letter m
 letter-is Null = refl
 letter-is Read = refl
+letter-is Add = refl
 letter-is Write = refl
 
-letter-at : (v : Vector) (k : ℕ) → letterFrom (readMask v) (writeMask v) k ≡ letter (getD v k Null)
+letter-at : (v : Vector) (k : ℕ) → letterFrom (readMask v) (writeMask v) (addMask v) k ≡ letter (getD v k Null)
 unfolding letterFrom
 letter-at v k =
-    let w = bit-mask (map changes v) k ∙ List·getD-map changes v k Null in
-    let r = bit-mask (map onlyRead v) k ∙ List·getD-map onlyRead v k Null in
-    (λ i. cond (w i) 87 (cond (r i) 82 78)) ∙ letter-is (getD v k Null)
+    let w = bit-mask (map isWrite v) k ∙ List·getD-map isWrite v k Null in
+    let r = bit-mask (map isRead v) k ∙ List·getD-map isRead v k Null in
+    let a = bit-mask (map isAdd v) k ∙ List·getD-map isAdd v k Null in
+    (λ i. cond (w i) 87 (cond (r i) 82 (cond (a i) 65 78))) ∙ letter-is (getD v k Null)
 
-pub letters-are : (v : Vector) → lettersFrom (readMask v) (writeMask v) (length v) ≡ letters v
+pub letters-are : (v : Vector) → lettersFrom (readMask v) (writeMask v) (addMask v) (length v) ≡ letters v
 letters-are [] = refl
 letters-are (m ∷ ms) =
     let v = m ∷ ms in
-    map-numbers (letterFrom (readMask v) (writeMask v)) (length v)
-    ∙ upto-same (λ k. letter (getD v k Null)) (letterFrom (readMask v) (writeMask v)) (length v) (λ k h. letter-at v k)
+    let f = letterFrom (readMask v) (writeMask v) (addMask v) in
+    map-numbers f (length v)
+    ∙ upto-same (λ k. letter (getD v k Null)) f (length v) (λ k h. letter-at v k)
     ∙ sym (map-listed Null letter v)
 
 -- ---- flags

@@ -2,17 +2,17 @@
 use Prim.Native.Nat.{ℕ, _+_, _*_, _≤_}
 use mathlib.Core.Path.{_≡_, refl, _∙_}
 use mathlib.Core.Bool.{Bool, true, false, cond}
-use mathlib.Core.List.{List, _++_, map, flatMap}
+use mathlib.Core.List.{List, [], _∷_, _++_, map, flatMap}
 use native.Mathlib.Omega.{arith}
 use lib.ListN.{length, replicate, length-append, length-take, length-replicate}
 use lib.Dec.{ltb}
-use Rattle.layout.specs.Layout.{readMasksAt, writeMasksAt, commutingAt, objectClassAt, objectLineAt}
-use Rattle.model.specs.Image.{u32Bytes}
+use Rattle.layout.specs.Layout.{readMasksAt, writeMasksAt, commutingAt, addMasksAt, objectClassAt, objectLineAt}
+use Rattle.model.specs.Image.{u32Bytes, pairsFrom}
 use Rattle.text_lex.specs.Piece.{wordsAfter}
 use Rattle.catalog.specs.View.{partOf, valueOf, classWord, objectWord, statementWord, classCount, statementCount, objectCount, memberCount}
 use Rattle.catalog.specs.Look.{shownCount}
 use Rattle.output.specs.Each.{numbers, total, total-le, total-same, total-times, total-all, length-each, each-le}
-use Rattle.image.specs.Written.{placeBytes, placesFrom, eachMethod, masksFrom, commuteFrom, imageFrom, valuesFrom, startingFrom, tablesFrom}
+use Rattle.image.specs.Written.{placeBytes, placesFrom, eachMethod, masksFrom, commuteFrom, addsFrom, imageFrom, valuesFrom, startingFrom, tablesFrom}
 use Rattle.image.specs.declared.method.Part.the-variants.{Line}
 use Rattle.image.specs.Cells.{members-le, classes-le}
 
@@ -23,9 +23,9 @@ methodCount ws = total (λ c. memberCount ws c 1) (classCount ws)
 abbrev pub valueCount : List ℕ → ℕ
 valueCount ws = total (λ o. shownCount ws (objectWord ws o objectClassAt) 0) (objectCount ws)
 
--- The three pairs for parts of these lengths.
-abbrev pub pairs : ℕ → ℕ → ℕ → List ℕ
-pairs a b c = u32Bytes 24 ++ u32Bytes a ++ u32Bytes (24 + a) ++ u32Bytes b ++ u32Bytes (24 + a + b) ++ u32Bytes c
+-- The four pairs for parts of these lengths.
+abbrev pub pairs : ℕ → ℕ → ℕ → ℕ → List ℕ
+pairs a b c d = pairsFrom 32 (a ∷ b ∷ c ∷ d ∷ [])
 
 module _ (ws : List ℕ) where
   pub shown-le : (c p : ℕ) → shownCount ws c p ≤ 32
@@ -64,25 +64,32 @@ module _ (ws : List ℕ) where
   unfolding commuteFrom
   commute-length = each-method-length 4 (λ c j. u32Bytes (classWord ws c (commutingAt + j))) (λ c j. refl)
 
+  pub adds-length : length (addsFrom ws) ≡ 4 * methodCount ws
+  unfolding addsFrom
+  adds-length = each-method-length 4 (λ c j. u32Bytes (classWord ws c (addMasksAt + j))) (λ c j. refl)
+
   -- The pairs that the code writes are the image's.
   pub image-pairs : (statements methods : ℕ) → statements ≡ statementCount ws → methods ≡ methodCount ws
-      → pairs (8 * statements) (8 * methods) (4 * methods) ≡ pairs (length (placesFrom ws)) (length (masksFrom ws)) (length (commuteFrom ws))
+      → pairs (8 * statements) (8 * methods) (4 * methods) (4 * methods)
+      ≡ pairs (length (placesFrom ws)) (length (masksFrom ws)) (length (commuteFrom ws)) (length (addsFrom ws))
   image-pairs statements methods e k =
       let a : 8 * statements ≡ length (placesFrom ws) = omega (arith, places-length) in
       let b : 8 * methods ≡ length (masksFrom ws) = omega (arith, masks-length) in
       let c : 4 * methods ≡ length (commuteFrom ws) = omega (arith, commute-length) in
-      λ i. pairs (a i) (b i) (c i)
+      let d : 4 * methods ≡ length (addsFrom ws) = omega (arith, adds-length) in
+      λ i. pairs (a i) (b i) (c i) (d i)
 
-  pub image-length : length (imageFrom ws) ≡ 24 + 8 * statementCount ws + 12 * methodCount ws
+  pub image-length : length (imageFrom ws) ≡ 32 + 8 * statementCount ws + 16 * methodCount ws
   unfolding imageFrom
   image-length =
       let a = placesFrom ws in
       let b = masksFrom ws in
       let c = commuteFrom ws in
-      let p = pairs (length a) (length b) (length c) in
-      omega (arith, length-append (p ++ a ++ b) c, length-append (p ++ a) b, length-append p a, places-length, masks-length, commute-length)
+      let d = addsFrom ws in
+      let p = pairs (length a) (length b) (length c) (length d) in
+      omega (arith, length-append (p ++ a ++ b ++ c) d, length-append (p ++ a ++ b) c, length-append (p ++ a) b, length-append p a, places-length, masks-length, commute-length, adds-length)
 
-  pub image-le : length (imageFrom ws) ≤ 38936
+  pub image-le : length (imageFrom ws) ≤ 40992
   image-le = omega (arith, image-length, total-methods-le (classCount ws))
 
 module _ (text ws : List ℕ) where

@@ -4,7 +4,7 @@ use Prim.Native.Nat.{ℕ, zero, suc, _+_, _/_, _%_}
 use mathlib.Core.Bool.{cond}
 use mathlib.Core.List.{List, _++_, map, flatMap}
 use lib.ListN.{take, replicate}
-use Rattle.layout.specs.Layout.{classNameAt, methodNamesAt, readMasksAt, writeMasksAt, commutingAt, objectClassAt, objectLineAt}
+use Rattle.layout.specs.Layout.{classNameAt, methodNamesAt, readMasksAt, writeMasksAt, commutingAt, addMasksAt, objectClassAt, objectLineAt}
 use Rattle.model.specs.Base.{bytes, upto}
 use Rattle.model.specs.Image.{u32Bytes, withPairs}
 use Rattle.model.specs.Tables.{yesOrNo}
@@ -37,9 +37,13 @@ unfoldable pub commuteFrom : List ℕ → List ℕ
 unfolding eachMethod classWord
 commuteFrom ws = eachMethod ws (λ c j. u32Bytes (classWord ws c (commutingAt + j)))
 
+unfoldable pub addsFrom : List ℕ → List ℕ
+unfolding eachMethod classWord
+addsFrom ws = eachMethod ws (λ c j. u32Bytes (classWord ws c (addMasksAt + j)))
+
 unfoldable pub imageFrom : List ℕ → List ℕ
-unfolding placesFrom masksFrom commuteFrom
-imageFrom ws = withPairs (placesFrom ws) (masksFrom ws) (commuteFrom ws)
+unfolding placesFrom masksFrom commuteFrom addsFrom
+imageFrom ws = withPairs (placesFrom ws) (masksFrom ws) (commuteFrom ws) (addsFrom ws)
 
 -- ---- starting values
 
@@ -56,22 +60,28 @@ startingFrom text ws = flatMap (valuesFrom text ws) (numbers (objectCount ws))
 
 -- ---- what `tables` prints
 
--- The letter of field k: W where it is written, R where it is read, else N.
-unfoldable pub letterFrom : ℕ → ℕ → ℕ → ℕ
+-- The letter of field k: W where it is written, R where it is read, A where it is added to, else N.
+unfoldable pub letterFrom : ℕ → ℕ → ℕ → ℕ → ℕ
 unfolding bit
-letterFrom read write k = cond (bit write k) 87 (cond (bit read k) 82 78)
+letterFrom read write add k = cond (bit write k) 87 (cond (bit read k) 82 (cond (bit add k) 65 78))
 
 -- "(`-` if no fields)"
-abbrev pub lettersFrom : ℕ → ℕ → ℕ → List ℕ
-lettersFrom read write zero = bytes "-"
-lettersFrom read write (suc n) = map (letterFrom read write) (numbers (suc n))
+abbrev pub lettersFrom : ℕ → ℕ → ℕ → ℕ → List ℕ
+lettersFrom read write add zero = bytes "-"
+lettersFrom read write add (suc n) = map (letterFrom read write add) (numbers (suc n))
+
+-- The letters of class c's method j, by its masks.
+unfoldable pub methodLetters : List ℕ → ℕ → ℕ → List ℕ
+unfolding classWord memberCount letterFrom upto
+methodLetters ws c j =
+    lettersFrom (classWord ws c (readMasksAt + j)) (classWord ws c (writeMasksAt + j)) (classWord ws c (addMasksAt + j)) (memberCount ws c 0)
 
 -- The line of class c's method j: "class, method, one letter N, R or W a field .., then y or n for each method".
 unfoldable pub lineFrom : List ℕ → List ℕ → ℕ → ℕ → List ℕ
-unfolding nameOf classWord memberCount letterFrom bit upto
+unfolding nameOf classWord memberCount methodLetters bit upto
 lineFrom text ws c j =
     nameOf text (classWord ws c classNameAt) ++ bytes " " ++ nameOf text (classWord ws c (methodNamesAt + j)) ++ bytes " "
-    ++ lettersFrom (classWord ws c (readMasksAt + j)) (classWord ws c (writeMasksAt + j)) (memberCount ws c 0) ++ bytes " "
+    ++ methodLetters ws c j ++ bytes " "
     ++ map (λ i. yesOrNo (bit (classWord ws c (commutingAt + j)) i)) (numbers (memberCount ws c 1)) ++ bytes "\n"
 
 unfoldable pub tablesFrom : List ℕ → List ℕ → List ℕ

@@ -30,18 +30,20 @@ pub fn image_size(tables: &[u32]) -> usize
 {
     let statements = catalog::statement_count(tables);
     let methods = method_count(tables);
-    (24 + 8 * statements + 12 * methods) as usize
+    (32 + 8 * statements + 16 * methods) as usize
 }
 
-// Writes the three pairs, for parts of so many statements and methods.
+// Writes the four pairs, for parts of so many statements and methods.
 fn put_pairs(image: &mut [u8], statements: u32, methods: u32) -> usize
     requires { ⌜ (statements ≤ 4096) × (methods ≤ 512) ⌝ }
-    ensures { λ r. ⌜ Appended (pairs (8 * statements) (8 * methods) (4 * methods)) (now (image .entry)) 0 r (now (image .exit)) ⌝ }
+    ensures { λ r. ⌜ Appended (pairs (8 * statements) (8 * methods) (4 * methods) (4 * methods)) (now (image .entry)) 0 r (now (image .exit)) ⌝ }
 {
-    let second = 24 + 8 * statements;
-    let at = output::put_pair(image, 0, 24, 8 * statements);
+    let second = 32 + 8 * statements;
+    let third = second + 8 * methods;
+    let at = output::put_pair(image, 0, 32, 8 * statements);
     let at = output::put_pair(image, at, second, 8 * methods);
-    output::put_pair(image, at, second + 8 * methods, 4 * methods)
+    let at = output::put_pair(image, at, third, 4 * methods);
+    output::put_pair(image, at, third + 4 * methods, 4 * methods)
 }
 
 // Writes the place of each statement in the text.
@@ -71,7 +73,8 @@ pub fn write_image(tables: &[u32], image: &mut [u8])
     );
     let at = put_places(tables, image, at);
     let at = method::put_classes(b"", tables, method::Part::Masks, image, at);
-    method::put_classes(b"", tables, method::Part::Commuting, image, at);
+    let at = method::put_classes(b"", tables, method::Part::Commuting, image, at);
+    method::put_classes(b"", tables, method::Part::Adds, image, at);
 }
 
 // The number of the objects' values.

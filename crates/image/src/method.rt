@@ -1,4 +1,5 @@
-// Writes what the image or `tables` has of each method, in order: its two masks, its commuting mask, or its line.
+// Writes what the image or `tables` has of each method, in order: its read and write masks, its commuting mask, its add mask, or its
+// line.
 use output::put_byte;
 use output::put_bytes;
 use output::put_pair;
@@ -14,20 +15,24 @@ ghost use Rattle.image.specs.Cells.{cellFrom, methodsFrom, nameFrom, vec
 pub enum Part {
     Masks,
     Commuting,
+    Adds,
     Line,
 }
 
-// The first byte where the first mask has the bit, else the second where the second has it, else the third.
-fn mark(place: u32, first: u32, second: u32, high: u8, middle: u8, low: u8) -> u8
-    ensures { λ r. ⌜ r ≡ markOf first second high middle low place ⌝ }
+// The byte of the first of three masks that has the bit; the fourth byte where none has it.
+fn mark(place: u32, first: u32, second: u32, third: u32, marks: &[u8; 4]) -> u8
+    ensures { λ r. ⌜ r ≡ markOf first second third (now (marks .entry)) place ⌝ }
 {
     if catalog::has_bit(first, place) {
-        return high;
+        return marks[0];
     }
     if catalog::has_bit(second, place) {
-        middle
+        return marks[1];
+    }
+    if catalog::has_bit(third, place) {
+        marks[2]
     } else {
-        low
+        marks[3]
     }
 }
 
@@ -38,17 +43,16 @@ fn put_marks(
     count: u32,
     first: u32,
     second: u32,
-    high: u8,
-    middle: u8,
-    low: u8,
+    third: u32,
+    marks: &[u8; 4],
 ) -> usize
     requires { ⌜ (count ≤ 32) × (at + 32 < 2 ^ 64) ⌝ }
-    ensures { λ r. ⌜ Appended (upto (markOf first second high middle low) count) (now (out .entry)) at r (now (out .exit)) ⌝ }
+    ensures { λ r. ⌜ Appended (upto (markOf first second third (now (marks .entry))) count) (now (out .entry)) at r (now (out .exit)) ⌝ }
 {
     let mut end = at;
     let mut place = 0;
     while place < count {
-        let byte = mark(place, first, second, high, middle, low);
+        let byte = mark(place, first, second, third, marks);
         end = put_byte(out, end, byte);
         place += 1;
     }
@@ -56,14 +60,14 @@ fn put_marks(
 }
 
 // Writes the letters of a vector, or `-`.
-fn put_letters(out: &mut [u8], at: usize, fields: u32, read: u32, write: u32) -> usize
+fn put_letters(out: &mut [u8], at: usize, fields: u32, read: u32, write: u32, add: u32) -> usize
     requires { ⌜ (fields ≤ 32) × (at + 32 < 2 ^ 64) ⌝ }
-    ensures { λ r. ⌜ Appended (lettersFrom read write fields) (now (out .entry)) at r (now (out .exit)) ⌝ }
+    ensures { λ r. ⌜ Appended (lettersFrom read write add fields) (now (out .entry)) at r (now (out .exit)) ⌝ }
 {
     if fields == 0 {
         return put_byte(out, at, b'-');
     }
-    put_marks(out, at, fields, write, read, b'W', b'R', b'N')
+    put_marks(out, at, fields, write, read, add, b"WRAN")
 }
 
 // Writes the name that a name's word refers to, and a space.
@@ -83,7 +87,8 @@ fn put_vector(tables: &[u32], class: u32, method: u32, out: &mut [u8], at: usize
     let fields = catalog::member_count(tables, class, 0);
     let read = catalog::class_word(tables, class, layout::READ_MASKS_AT + method);
     let write = catalog::class_word(tables, class, layout::WRITE_MASKS_AT + method);
-    let at = put_letters(out, at, fields, read, write);
+    let add = catalog::class_word(tables, class, layout::ADD_MASKS_AT + method);
+    let at = put_letters(out, at, fields, read, write, add);
     put_byte(out, at, b' ')
 }
 
@@ -94,7 +99,7 @@ fn put_flags(tables: &[u32], class: u32, method: u32, out: &mut [u8], at: usize)
 {
     let methods = catalog::member_count(tables, class, 1);
     let mask = catalog::class_word(tables, class, layout::COMMUTING_AT + method);
-    let at = put_marks(out, at, methods, mask, mask, b'y', b'n', b'n');
+    let at = put_marks(out, at, methods, mask, mask, mask, b"ynnn");
     put_byte(out, at, b'\n')
 }
 
@@ -149,6 +154,11 @@ fn put_cell(
             out,
             at,
             catalog::class_word(tables, class, layout::COMMUTING_AT + method),
+        ),
+        Part::Adds => put_u32(
+            out,
+            at,
+            catalog::class_word(tables, class, layout::ADD_MASKS_AT + method),
         ),
         Part::Line => put_line(text, tables, class, method, out, at),
     }

@@ -2,6 +2,7 @@ pub mod Basics
 pub mod Lists
 pub mod Lookup
 pub mod Modes
+pub mod Sums
 pub mod PutBack
 pub mod Bits
 pub mod Upto

@@ -1,12 +1,12 @@
 -- Values put back, place by place: each place keeps its value or gets the noted one.
 use Prim.Native.Nat.{ℕ, zero, suc, _<_}
 use native.Mathlib.Omega.{arith}
-use mathlib.Core.Path.{_≡_, refl, sym, ap, _∙_}
-use mathlib.Core.Option.{none}
+use mathlib.Core.Path.{_≡_, refl, sym, ap, ap₂, _∙_}
 use mathlib.Core.List.{List, [], _∷_}
 use lib.ListN.{length, getD}
 use lib.Seq.{ext-getD}
-use Rattle.model.specs.Undo.{Undo, restored, putBack}
+use Rattle.model.specs.Undo.{sumAdded, Undo, restored, putBack}
+use Rattle.laws.specs.Sums.{nothing-back}
 
 pub back-length : (u : Undo) (fields : List ℕ) → length (putBack u fields) ≡ length fields
 unfolding putBack
@@ -28,8 +28,8 @@ back-same u w fields others long each =
     ext-getD 0 (putBack u fields) (putBack w others) (a ∙ long ∙ sym b)
     (λ i h. back-at u fields i (omega arith) ∙ each i (omega arith) ∙ sym (back-at w others i (omega arith)))
 
--- A transaction that set nothing puts nothing back.
-pub back-clean : (fields : List ℕ) → putBack (λ k. none) fields ≡ fields
+-- A transaction that changed nothing puts nothing back.
+pub back-clean : (fields : List ℕ) → putBack (λ k. sumAdded 0) fields ≡ fields
 unfolding putBack
 back-clean [] = refl
-back-clean (v ∷ vs) = ap {B = List ℕ} (λ x. v ∷ x) (back-clean vs)
+back-clean (v ∷ vs) = ap₂ (λ (x : ℕ) (xs : List ℕ). x ∷ xs) (nothing-back v) (back-clean vs)

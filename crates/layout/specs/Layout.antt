@@ -49,8 +49,7 @@ abbrev pub headWords : ℕ
 headWords = 8
 
 -- ---- a class: its name, how many fields and methods, its ancestors (bit d for class d), the place of its latest method, its domain
--- ---- (bit d for class d), two words spare; for its fields, then for its methods, names and bodies; four masks for each
--- ---- method, of which the fourth is spare (Ticket 6 of document 02)
+-- ---- (bit d for class d), two words spare; for its fields, then for its methods, names and bodies; four masks for each method
 
 abbrev pub classNameAt : ℕ
 classNameAt = 0
@@ -99,11 +98,11 @@ writeMasksAt = readMasksAt + membersMost
 abbrev pub commutingAt : ℕ
 commutingAt = writeMasksAt + membersMost
 
-abbrev pub spareMasksAt : ℕ
-spareMasksAt = commutingAt + membersMost
+abbrev pub addMasksAt : ℕ
+addMasksAt = commutingAt + membersMost
 
 abbrev pub classWords : ℕ
-classWords = spareMasksAt + membersMost
+classWords = addMasksAt + membersMost
 
 -- ---- an object: its name, its class, where its values begin, the part of its line with values
 
@@ -136,7 +135,8 @@ statementsAt = objectsAt + objectsMost * objectWords
 abbrev pub tableWords : ℕ
 tableWords = statementsAt + statementsMost
 
--- ---- a slot's row: the message, its activations, the locks, the marks of the values that were set, the values that they had
+-- ---- a slot's row: the message, its activations, the locks, the marks of the values that have a note and of those that were set, the
+-- ---- notes
 
 abbrev pub phaseAt : ℕ
 phaseAt = 0
@@ -165,7 +165,7 @@ nameAt = 7
 abbrev pub argumentAt : ℕ
 argumentAt = 8
 
--- 1 where a value was set.
+-- 1 where a value was set or added to.
 abbrev pub changedAt : ℕ
 changedAt = 9
 
@@ -221,16 +221,20 @@ classLocksAt = objectLocksAt + objectsMost
 abbrev pub wholeLocksAt : ℕ
 wholeLocksAt = classLocksAt + classesMost
 
+-- A bit for each value that was set or added to; and one for each that was set.
 abbrev pub marksAt : ℕ
 marksAt = wholeLocksAt + classesMost
 
--- Spare: the marks of a second kind of note (Ticket 6), a waiting send with its locks, laid out as the words before the marks are (7),
--- a note for each object's number and its marks (12).
+abbrev pub setMarksAt : ℕ
+setMarksAt = marksAt + valuesMost / 32
+
+-- Spare: a waiting send with its locks, laid out as the words before the marks are (Ticket 7), a note for each object's number and
+-- its marks (12).
 abbrev pub spareAt : ℕ
-spareAt = marksAt + valuesMost / 32
+spareAt = setMarksAt + valuesMost / 32
 
 abbrev pub spareWords : ℕ
-spareWords = valuesMost / 32 + marksAt + (objectsMost + objectsMost / 32)
+spareWords = marksAt + (objectsMost + objectsMost / 32)
 
 abbrev pub notesAt : ℕ
 notesAt = spareAt + spareWords

@@ -36,8 +36,7 @@ pub const START_MARK_AT: usize = 5;
 pub const HEAD_WORDS: usize = 8;
 
 // ---- a class: its name, how many fields and methods, its ancestors (bit d for class d), the place of its latest method, its domain
-// ---- (bit d for class d), two words spare; for its fields, then for its methods, names and bodies; four masks for each
-// ---- method, of which the fourth is spare (Ticket 6 of document 02)
+// ---- (bit d for class d), two words spare; for its fields, then for its methods, names and bodies; four masks for each method
 
 pub const CLASS_NAME_AT: u32 = 0;
 
@@ -71,9 +70,9 @@ pub const WRITE_MASKS_AT: u32 = READ_MASKS_AT + MEMBERS;
 
 pub const COMMUTING_AT: u32 = WRITE_MASKS_AT + MEMBERS;
 
-pub const SPARE_MASKS_AT: u32 = COMMUTING_AT + MEMBERS;
+pub const ADD_MASKS_AT: u32 = COMMUTING_AT + MEMBERS;
 
-pub const CLASS_WORDS: usize = SPARE_MASKS_AT as usize + MEMBERS as usize;
+pub const CLASS_WORDS: usize = ADD_MASKS_AT as usize + MEMBERS as usize;
 
 // ---- an object: its name, its class, where its values begin, the part of its line with values
 
@@ -97,7 +96,8 @@ pub const STATEMENTS_AT: usize = OBJECTS_AT + OBJECTS as usize * OBJECT_WORDS;
 
 pub const TABLE_WORDS: usize = STATEMENTS_AT + STATEMENTS as usize;
 
-// ---- a slot's row: the message, its activations, the locks, the marks of the values that were set, the values that they had
+// ---- a slot's row: the message, its activations, the locks, the marks of the values that have a note and of those that were set, the
+// ---- notes
 
 pub const PHASE_AT: usize = 0;
 
@@ -117,7 +117,7 @@ pub const NAME_AT: usize = 7;
 
 pub const ARGUMENT_AT: usize = 8;
 
-// 1 where a value was set.
+// 1 where a value was set or added to.
 pub const CHANGED_AT: usize = 9;
 
 // Where locks were taken: bit b for words 8 * b to 8 * b + 7. So every lock stands below word 256.
@@ -157,13 +157,16 @@ pub const CLASS_LOCKS_AT: usize = OBJECT_LOCKS_AT + OBJECTS as usize;
 // Locks on a class with its objects.
 pub const WHOLE_LOCKS_AT: usize = CLASS_LOCKS_AT + CLASSES as usize;
 
+// A bit for each value that was set or added to; and one for each that was set.
 pub const MARKS_AT: usize = WHOLE_LOCKS_AT + CLASSES as usize;
 
-// Spare: the marks of a second kind of note (Ticket 6), a waiting send with its locks, laid out as the words before the marks are (7),
-// a note for each object's number and its marks (12).
-pub const SPARE_AT: usize = MARKS_AT + VALUES / 32;
+pub const SET_MARKS_AT: usize = MARKS_AT + VALUES / 32;
 
-pub const SPARE_WORDS: usize = VALUES / 32 + MARKS_AT + (OBJECTS as usize + OBJECTS as usize / 32);
+// Spare: a waiting send with its locks, laid out as the words before the marks are (Ticket 7), a note for each object's number and
+// its marks (12).
+pub const SPARE_AT: usize = SET_MARKS_AT + VALUES / 32;
+
+pub const SPARE_WORDS: usize = MARKS_AT + (OBJECTS as usize + OBJECTS as usize / 32);
 
 pub const NOTES_AT: usize = SPARE_AT + SPARE_WORDS;
 

@@ -1,9 +1,12 @@
 // Carries out a turn on a slot's row and the values.
 use machine_decide::Turn;
+use machine_words::Change;
 ghost use Prim.Native.Nat.{_-_};
 ghost use mathlib.Core.Path.{_≡_};
 ghost use lib.ListN.{length, set};
 ghost use Rattle.layout.specs.Layout.{phaseAt, rowWords};
+ghost use Rattle.model.specs.Message.{changed};
+ghost use Rattle.machine_words.specs.Said.{saidChange};
 ghost use Rattle.machine_words.specs.Row.{stepped, passed, skipRow, callRow, replyRow, backRow, carried, assign, stop};
 ghost use Rattle.machine_decide.specs.Said.{saidTurn};
 ghost use Rattle.machine_apply.specs.Carried.{Leaves};
@@ -87,13 +90,23 @@ fn call(row: &mut [u32], first: u32, end: u32, argument: u32)
     count_step(row);
 }
 
-// Sets a value, after noting its old one.
-fn assign(row: &mut [u32], values: &mut [u32], place: usize, value: u32)
-    ensures { λ _. ⌜ Leaves (carried (now (row .entry)) (now (values .entry)) (assign place value)) Said.Going (now (row .exit)) (now (values .exit)) ⌝ }
+// The old value replaced by another, or increased by it in 32 bits.
+fn changed(change: Change, old: u32, value: u32) -> u32
+    ensures { λ r. ⌜ r ≡ changed (saidChange change) old value ⌝ }
+{
+    match change {
+        Change::Replace => value,
+        Change::Increase => std::num::wrapping_add_u32(old, value),
+    }
+}
+
+// Changes a value, after its undo note.
+fn assign(row: &mut [u32], values: &mut [u32], change: Change, place: usize, value: u32)
+    ensures { λ _. ⌜ Leaves (carried (now (row .entry)) (now (values .entry)) (assign (saidChange change) place value)) Said.Going (now (row .exit)) (now (values .exit)) ⌝ }
 {
     let old = memory::get(values, place);
-    machine_undo::note(row, place, old);
-    memory::put(values, place, value);
+    machine_undo::note(row, change, place, old, value);
+    memory::put(values, place, changed(change, old, value));
     skip(row);
 }
 
@@ -127,8 +140,8 @@ pub fn carry(row: &mut [u32], values: &mut [u32], turn: Turn) -> Said
             skip(row);
             Said::Going
         }
-        Turn::Assign(place, value) => {
-            assign(row, values, place, value);
+        Turn::Assign(change, place, value) => {
+            assign(row, values, change, place, value);
             Said::Going
         }
         Turn::Call(first, end, argument) => {

@@ -49,7 +49,7 @@ pub fn commit(text: &[u8], state: &mut [u32], values: &[u32], slot: u32) -> Outc
     Outcome::Done
 }
 
-// Puts back the values that the transaction set, and frees its slot.
+// Undoes the transaction in the values, and frees its slot.
 pub fn abort(text: &[u8], state: &mut [u32], values: &mut [u32], slot: u32) -> Outcome
     ensures { λ r. ⌜ Leaves (called (now (text .entry)) (now (state .entry)) (now (values .entry)) (abort slot)) r (now (state .exit)) (now (values .exit)) ⌝ }
 {

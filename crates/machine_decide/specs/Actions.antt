@@ -11,7 +11,7 @@ use Rattle.model.specs.Base.{bytes, same}
 use Rattle.model.specs.Text.{pieces}
 use Rattle.model.specs.Word.{isName}
 use Rattle.model.specs.Expression.{Expression, Parsed}
-use Rattle.model.specs.Form.{Keyword, classWord, fieldWord, methodWord, endWord, objectWord, setWord, sendWord, replyWord, whenWord, otherWord, Action, Statement}
+use Rattle.model.specs.Form.{Change, replace, increase, Keyword, classWord, fieldWord, methodWord, endWord, objectWord, setWord, addWord, sendWord, replyWord, whenWord, otherWord, Action, Statement}
 use Rattle.model.specs.Library.{Member, memberPlace, classNumber}
 use Rattle.text_lex.specs.Scan.{isByte, before}
 use Rattle.text_lex.specs.Piece.{piecesAfter, first, others, isEmpty, first-piece, empty-after}
@@ -21,7 +21,7 @@ use Rattle.machine_evaluate.specs.declared.Value.{Value}
 use Rattle.machine_evaluate.specs.Valued.{valued}
 use Rattle.machine_words.specs.Row.{Turn, misfit, stop, skip, assign, call, reply}
 use Rattle.catalog.specs.Bodies.{bodyIn, boundsOf}
-use Rattle.machine_words.specs.Turn.{valueIn, setTurn, callTurn, actionTurn, statementTurn}
+use Rattle.machine_words.specs.Turn.{valueIn, assignTurn, callTurn, actionTurn, statementTurn}
 use Rattle.catalog.specs.declared.body.Body.{Body}
 use Rattle.catalog.specs.declared.body.Body.the-variants.{Found, Missing}
 use Rattle.machine_decide.specs.declared.line.Frame.{Frame}
@@ -33,6 +33,7 @@ isWhen methodWord = false
 isWhen endWord = false
 isWhen objectWord = false
 isWhen setWord = false
+isWhen addWord = false
 isWhen sendWord = false
 isWhen replyWord = false
 isWhen whenWord = true
@@ -50,6 +51,7 @@ isBegun methodWord ws = false
 isBegun endWord ws = false
 isBegun objectWord ws = false
 isBegun setWord ws = isName (first ws)
+isBegun addWord ws = isName (first ws)
 isBegun sendWord ws = isToSelf (others ws) && isTarget (pieces 46 (first ws))
 isBegun replyWord ws = true
 isBegun whenWord ws = false
@@ -63,6 +65,7 @@ skipped methodWord ws = ws
 skipped endWord ws = ws
 skipped objectWord ws = ws
 skipped setWord ws = others ws
+skipped addWord ws = others ws
 skipped sendWord ws = others (others (others ws))
 skipped replyWord ws = ws
 skipped whenWord ws = ws
@@ -77,7 +80,8 @@ targetBody text tables c ps =
 
 -- The turn for the keyword, the word w after it and the value v.
 abbrev pub actedTurn : List ℕ → List ℕ → Frame → Keyword → List ℕ → ℕ → Turn
-actedTurn text tables frame setWord w v = setTurn text tables (frame .class) (frame .base) w v
+actedTurn text tables frame setWord w v = assignTurn text tables (frame .class) (frame .base) replace w v
+actedTurn text tables frame addWord w v = assignTurn text tables (frame .class) (frame .base) increase w v
 actedTurn text tables frame sendWord w v = callTurn (frame .depth) (targetBody text tables (frame .class) (pieces 46 w)) v
 actedTurn text tables frame replyWord w v = reply v
 actedTurn text tables frame classWord w v = misfit
@@ -130,11 +134,11 @@ called-by depth v none = refl
 called-by depth v (some m) = refl
 
 -- The field f, found at place k of n.
-module _ (text tables : List ℕ) (c base : ℕ) (f : List ℕ) (v k n : ℕ) (e : k ≡ memberPlace (membersOf text tables c 0) f) (q : n ≡ memberCount tables c 0) where
-  pub set-there : k < n → assign (base + k) v ≡ setTurn text tables c base f v
-  unfolding setTurn
-  set-there h = rw (← e, ← q, lt-ltb k n h)
+module _ (text tables : List ℕ) (c base : ℕ) (how : Change) (f : List ℕ) (v k n : ℕ) (e : k ≡ memberPlace (membersOf text tables c 0) f) (q : n ≡ memberCount tables c 0) where
+  pub assign-there : k < n → assign how (base + k) v ≡ assignTurn text tables c base how f v
+  unfolding assignTurn
+  assign-there h = rw (← e, ← q, lt-ltb k n h)
 
-  pub set-none : n ≤ k → misfit ≡ setTurn text tables c base f v
-  unfolding setTurn
-  set-none h = rw (← e, ← q, le-ltb k n h)
+  pub assign-none : n ≤ k → misfit ≡ assignTurn text tables c base how f v
+  unfolding assignTurn
+  assign-none h = rw (← e, ← q, le-ltb k n h)

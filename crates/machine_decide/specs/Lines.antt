@@ -13,9 +13,9 @@ use Rattle.model.specs.Base.{bytes, same}
 use Rattle.model.specs.Text.{pieces, words}
 use Rattle.model.specs.Word.{isName}
 use Rattle.model.specs.Expression.{Expression, Parsed, parsed, unread, expression}
-use Rattle.model.specs.Form.{Keyword, classWord, fieldWord, methodWord, endWord, objectWord, setWord, sendWord, replyWord, whenWord, otherWord}
-use Rattle.model.specs.Form.{Action, assign, send, sendPrefixed, reply, Form, classLine, fieldLine, methodLine, statementLine, endLine, objectLine, malformed}
-use Rattle.model.specs.Form.{keywordOf, whole, given, sendTo, actionOf, statementForm, whenForm, formAs, formOf}
+use Rattle.model.specs.Form.{Keyword, classWord, fieldWord, methodWord, endWord, objectWord, setWord, addWord, sendWord, replyWord, whenWord, otherWord}
+use Rattle.model.specs.Form.{Change, replace, increase, Action, assign, send, sendPrefixed, reply, Form, classLine, fieldLine, methodLine, statementLine, endLine, objectLine, malformed}
+use Rattle.model.specs.Form.{keywordOf, whole, given, sendTo, assignAction, actionOf, statementForm, whenForm, formAs, formOf}
 use Rattle.text_lex.specs.Tests.{and-false}
 use Rattle.text_lex.specs.Scan.{isByte, before}
 use Rattle.text_lex.specs.Piece.{wordsAfter, span, first, others, isEmpty, first-piece, empty-after}
@@ -26,7 +26,7 @@ use Rattle.catalog.specs.View as View
 use Rattle.machine_evaluate.specs.declared.Value.the-variants.{Found, Nothing}
 use Rattle.machine_evaluate.specs.Valued.{found-value, not-found, value-placed}
 use Rattle.machine_words.specs.Row.{Turn, misfit, skip}
-use Rattle.machine_words.specs.Turn.{setTurn, withValue, callTurn, actionTurn, formTurn, lineTurn}
+use Rattle.machine_words.specs.Turn.{assignTurn, withValue, callTurn, actionTurn, formTurn, lineTurn}
 use Rattle.machine_decide.specs.declared.line.Frame.{Frame}
 use Rattle.machine_decide.specs.Actions.{isWhen, isBegun, skipped, targetBody, actedTurn, skippedTurn, valueHere, valuedIn, turnIn, formedTurn}
 
@@ -71,11 +71,17 @@ module _ (text tables own : List ℕ) (frame : Frame) where
   target-turn (d ∷ m ∷ []) ws = rw (and-yes (isName m)) (whole-turn (isName d && isName m) (sendPrefixed d m) _ (expression ws) (λ e. refl))
   target-turn (d ∷ m ∷ n ∷ ns) ws = rw (and-false (isName m) refl, and-false (isName d) refl)
 
+  assign-turn : (how : Change) (ws : List (List ℕ))
+      → formed (assignAction how ws) ≡ cond (isName (first ws)) (wholeTurn (assignTurn text tables (frame .class) (frame .base) how (first ws)) (expression (others ws))) misfit
+  unfolding assignTurn actionTurn isName
+  assign-turn how [] = refl
+  assign-turn how (f ∷ ws) = whole-turn (isName f) (assign how f) _ (expression ws) (λ e. refl)
+
   action-turn : (k : Keyword) (ws : List (List ℕ))
       → formed (actionOf k ws) ≡ cond (isBegun k ws) (wholeTurn (actedTurn text tables frame k (first ws)) (expression (skipped k ws))) misfit
-  unfolding actionOf setTurn actionTurn isName same isTarget
-  action-turn setWord [] = refl
-  action-turn setWord (f ∷ ws) = whole-turn (isName f) (assign f) _ (expression ws) (λ e. refl)
+  unfolding actionOf actionTurn isName same isTarget
+  action-turn setWord ws = assign-turn replace ws
+  action-turn addWord ws = assign-turn increase ws
   action-turn sendWord [] = refl
   action-turn sendWord (m ∷ []) = refl
   action-turn sendWord (m ∷ t ∷ []) = rw (and-false (same t (bytes "to")) refl)
@@ -141,6 +147,7 @@ module _ (text tables own : List ℕ) (frame : Frame) where
   form-turn : (k : Keyword) (ws : List (List ℕ)) → turnOf (formAs k ws) ≡ cond (isWhen k) (turnOf (whenForm (expression ws))) (formed (actionOf k ws))
   unfolding formAs actionOf
   form-turn setWord ws = plain-turn (actionOf setWord ws)
+  form-turn addWord ws = plain-turn (actionOf addWord ws)
   form-turn sendWord ws = plain-turn (actionOf sendWord ws)
   form-turn replyWord ws = plain-turn (actionOf replyWord ws)
   form-turn whenWord ws = refl

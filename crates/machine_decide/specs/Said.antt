@@ -1,4 +1,5 @@
 -- The declared turn in the definition's terms.
+use Rattle.machine_words.specs.Said.{saidChange}
 use Rattle.machine_words.specs.Row as State
 use Rattle.machine_decide.specs.declared.Turn.{Turn}
 use Rattle.machine_decide.specs.declared.Turn.the-variants.{Misfit, Stop, Skip, Assign, Call, Reply, Back, Next, Answer}
@@ -7,7 +8,7 @@ abbrev pub saidTurn : Turn → State.Turn
 saidTurn Misfit = State.misfit
 saidTurn Stop = State.stop
 saidTurn Skip = State.skip
-saidTurn (Assign k v) = State.assign k v
+saidTurn (Assign how k v) = State.assign (saidChange how) k v
 saidTurn (Call first end argument) = State.call first end argument
 saidTurn (Reply v) = State.reply v
 saidTurn (Back v) = State.back v

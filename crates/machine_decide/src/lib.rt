@@ -4,6 +4,7 @@ pub mod line;
 pub mod visit;
 
 use catalog::body::Body;
+use machine_words::Change;
 ghost use Prim.Native.Nat.{_<_};
 ghost use mathlib.Core.Path.{_≡_};
 ghost use lib.ListN.{getD};
@@ -19,7 +20,7 @@ pub enum Turn {
     Misfit,
     Stop,
     Skip,
-    Assign(usize, u32),
+    Assign(Change, usize, u32),
     Call(u32, u32, u32),
     Reply(u32),
     Back(u32),

@@ -4,6 +4,7 @@ use super::Turn;
 use catalog::body::Body;
 use catalog::body::body_in;
 use machine_evaluate::Value;
+use machine_words::Change;
 use text_syntax::keyword::Keyword;
 use text_syntax::keyword::keyword_of;
 ghost use mathlib.Core.Path.{_≡_};
@@ -13,7 +14,8 @@ ghost use Rattle.model.specs.Expression.{expression};
 ghost use Rattle.model.specs.Form.{actionOf, whenForm, formOf};
 ghost use Rattle.text_lex.specs.Piece.{wordsAfter};
 ghost use Rattle.text_syntax.specs.Keywords.{saidKeyword};
-ghost use Rattle.machine_words.specs.Turn.{setTurn, callTurn, formTurn, lineTurn};
+ghost use Rattle.machine_words.specs.Said.{saidChange};
+ghost use Rattle.machine_words.specs.Turn.{assignTurn, callTurn, formTurn, lineTurn};
 ghost use Rattle.machine_decide.specs.Said.{saidTurn};
 ghost use Rattle.catalog.specs.Bodies.{boundsOf};
 ghost use Rattle.machine_decide.specs.Actions.{isWhen, isToSelf, isBegun, skipped, targetBody, actedTurn, skippedTurn, valuedIn, turnIn, formedTurn};
@@ -68,13 +70,20 @@ fn call_turn(text: &[u8], tables: &[u32], frame: Frame, target: &[u8], value: u3
     }
 }
 
-// The turn that sets a field of the object; Misfit where its class has no such field.
-fn set_turn(text: &[u8], tables: &[u32], frame: Frame, name: &[u8], value: u32) -> Turn
-    ensures { λ r. ⌜ saidTurn r ≡ setTurn (now (text .entry)) (now (tables .entry)) (frame .class) (frame .base) (now (name .entry)) value ⌝ }
+// The turn that changes a field of the object; Misfit where its class has no such field.
+fn assign_turn(
+    text: &[u8],
+    tables: &[u32],
+    frame: Frame,
+    change: Change,
+    name: &[u8],
+    value: u32,
+) -> Turn
+    ensures { λ r. ⌜ saidTurn r ≡ assignTurn (now (text .entry)) (now (tables .entry)) (frame .class) (frame .base) (saidChange change) (now (name .entry)) value ⌝ }
 {
     let field = catalog::find(text, tables, frame.class, FIELDS, name);
     if field < catalog::member_count(tables, frame.class, FIELDS) {
-        Turn::Assign(frame.base as usize + field as usize, value)
+        Turn::Assign(change, frame.base as usize + field as usize, value)
     } else {
         Turn::Misfit
     }
@@ -92,7 +101,8 @@ fn acted_turn(
     ensures { λ r. ⌜ saidTurn r ≡ actedTurn (now (text .entry)) (now (tables .entry)) frame (saidKeyword keyword) (now (word .entry)) value ⌝ }
 {
     match keyword {
-        Keyword::Set => set_turn(text, tables, frame, word, value),
+        Keyword::Set => assign_turn(text, tables, frame, Change::Replace, word, value),
+        Keyword::Add => assign_turn(text, tables, frame, Change::Increase, word, value),
         Keyword::Send => call_turn(text, tables, frame, word, value),
         Keyword::Reply => Turn::Reply(value),
         Keyword::Class => Turn::Misfit,
@@ -122,6 +132,7 @@ fn is_begun(keyword: Keyword, line: &[u8], at: usize) -> bool
 {
     match keyword {
         Keyword::Set => text_lex::is_name(text_lex::word_after(line, at)),
+        Keyword::Add => text_lex::is_name(text_lex::word_after(line, at)),
         Keyword::Send => {
             let target = text_lex::word_end_after(line, at);
             if !is_to_self(line, target) {
@@ -146,6 +157,7 @@ fn expression_place(keyword: Keyword, line: &[u8], at: usize) -> usize
 {
     match keyword {
         Keyword::Set => text_lex::word_end_after(line, at),
+        Keyword::Add => text_lex::word_end_after(line, at),
         Keyword::Send => {
             let target = text_lex::word_end_after(line, at);
             let to = text_lex::word_end_after(line, target);
@@ -264,6 +276,7 @@ fn is_when(keyword: Keyword) -> bool
         Keyword::End => false,
         Keyword::Object => false,
         Keyword::Set => false,
+        Keyword::Add => false,
         Keyword::Send => false,
         Keyword::Reply => false,
         Keyword::When => true,

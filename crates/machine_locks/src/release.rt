@@ -46,7 +46,7 @@ fn clear_locks(row: &mut [u32])
     }
 }
 
-// Clears what a transaction that set no value wrote: its locks, its message and its activations, only the first where it made no
+// Clears what a transaction that changed no value wrote: its locks, its message and its activations, only the first where it made no
 // self-call.
 fn release(row: &mut [u32])
     requires { ⌜ length (now row) ≡ rowWords ⌝ }
@@ -61,7 +61,7 @@ fn release(row: &mut [u32])
     clear_first(row, layout::OBJECT_LOCKS_AT);
 }
 
-// Closes a slot's row: clears what its transaction wrote. Where no value was set there are no marks and no notes.
+// Closes a slot's row: clears what its transaction wrote. Where no value was changed there are no marks and no notes.
 pub fn close(row: &mut [u32])
     requires { ⌜ length (now row) ≡ rowWords ⌝ }
     ensures { λ _. ⌜ now (row .exit) ≡ freed (now (row .entry)) ⌝ }
@@ -74,7 +74,7 @@ pub fn close(row: &mut [u32])
     clear_first(row, layout::SPARE_AT);
 }
 
-// Undoes a transaction: puts back the values that it set, and closes its row.
+// Undoes a transaction in the values, and closes its row.
 pub fn roll_back(row: &mut [u32], values: &mut [u32])
     requires { ⌜ length (now row) ≡ rowWords ⌝ }
     ensures { λ _. ⌜ (now (row .exit) ≡ freed (now (row .entry))) × (now (values .exit) ≡ putBack (noteAt (now (row .entry))) (now (values .entry))) ⌝ }

@@ -1,6 +1,6 @@
 -- Ticket 5: the step that counts in 16 bits and the step that counts in 64 bits agree on every state that start and the calls left,
 -- since no message that runs has taken 1,024 steps on its object.
-use Prim.Native.Nat.{ℕ, _+_, _-_, _*_, _/_, _%_, _^_, _<_}
+use Prim.Native.Nat.{ℕ, _+_, _-_, _*_, _/_, _%_, _<_}
 use native.Mathlib.Omega.{arith}
 use mathlib.Core.Path.{_≡_, refl, sym, ap, _∙_}
 use mathlib.Core.Bool.{Bool, true, false, cond}
@@ -9,15 +9,15 @@ use mathlib.Core.List.{List}
 use lib.ListN.{getD, set}
 use lib.Seq.{set-set}
 use lib.Dec.{ltb}
-use lib.Bits.{bitOr}
-use Rattle.layout.specs.Layout.{valuesMost, depthAt, stepsAt, changedAt, calledAt, activationsAt, nextAt, endAt, gotAt, replyAt, activationWords, marksAt, notesAt}
+use Rattle.layout.specs.Layout.{valuesMost, depthAt, stepsAt, changedAt, calledAt, activationsAt, nextAt, endAt, gotAt, replyAt, activationWords, marksAt, setMarksAt, notesAt}
 use Rattle.laws.specs.Bits.{bit}
+use Rattle.model.specs.Form.{Change}
 use Rattle.model.specs.Vector.{Program}
-use Rattle.model.specs.Message.{Run}
+use Rattle.model.specs.Message.{changed, Run}
 use Rattle.model.specs.Service.{Slot, closed, opened, World}
 use Rattle.model.specs.Machine.{service}
 use Rattle.machine_words.specs.Row as Row
-use Rattle.machine_words.specs.Row.{Turn, Left, act, top, withAct, newAct, stepped, passed, notedRow, skipRow, callRow, replyRow, backRow, goingTo, carried}
+use Rattle.machine_words.specs.Row.{Turn, Left, act, top, withAct, newAct, stepped, passed, isSet, noteWord, withMark, notedRow, skipRow, callRow, replyRow, backRow, goingTo, carried}
 use Rattle.machine_words.specs.Turn.{decidedWide, decided}
 use Rattle.machine_words.specs.Calls.{After, tablesOf, rowOf, phaseOf, laid}
 use Rattle.machine_refinement.specs.Rep.{Running, NowRep, SlotRep, Rep}
@@ -37,7 +37,7 @@ unfolding carried
 carriedWide row values Row.misfit = carried row values Row.misfit
 carriedWide row values Row.stop = carried row values Row.stop
 carriedWide row values Row.skip = recounted row (carried row values Row.skip)
-carriedWide row values (Row.assign k v) = recounted row (carried row values (Row.assign k v))
+carriedWide row values (Row.assign how k v) = recounted row (carried row values (Row.assign how k v))
 carriedWide row values (Row.call first end a) = recounted row (carried row values (Row.call first end a))
 carriedWide row values (Row.reply v) = recounted row (carried row values (Row.reply v))
 carriedWide row values (Row.back v) = recounted row (carried row values (Row.back v))
@@ -69,22 +69,25 @@ new-count row k first end a =
     let r₃ = withAct r₂ k 2 a in
     act-count (withAct r₃ k gotAt 0) k 4 0 ∙ act-count r₃ k gotAt 0 ∙ act-count r₂ k 2 a ∙ act-count r₁ k 1 end ∙ act-count row k 0 first
 
-noted-count : (row : List ℕ) (k v : ℕ) → getD (notedRow row k v) stepsAt 0 ≡ getD row stepsAt 0
+noted-count : (row : List ℕ) (how : Change) (k x v : ℕ) → getD (notedRow row how k x v) stepsAt 0 ≡ getD row stepsAt 0
 unfolding notedRow
-noted-count row k v = go (ltb k valuesMost) (bit marks (k % 32))
+noted-count row how k x v = go (ltb k valuesMost) (bit (getD row (setMarksAt + k / 32) 0) (k % 32))
   where
-    marks : ℕ
-    marks = getD row (marksAt + k / 32) 0
+    flagged : List ℕ
+    flagged = set row changedAt 1
 
-    more : ℕ
-    more = bitOr marks (2 ^ (k % 32))
+    marked : List ℕ
+    marked = withMark flagged marksAt k true
 
-    go : (b c : Bool) → getD (cond b (cond c row (set (set (set row changedAt 1) (marksAt + k / 32) more) (notesAt + k) v)) row) stepsAt 0 ≡ getD row stepsAt 0
+    word : ℕ
+    word = noteWord how (getD row (notesAt + k) 0) x v
+
+    go : (b c : Bool) → getD (cond b (cond c row (set (withMark marked setMarksAt k (isSet how)) (notesAt + k) word)) row) stepsAt 0 ≡ getD row stepsAt 0
     go false c = refl
     go true true = refl
     go true false =
-        else-word (set (set row changedAt 1) (marksAt + k / 32) more) (notesAt + k) v stepsAt (omega arith)
-        ∙ else-word (set row changedAt 1) (marksAt + k / 32) more stepsAt (omega arith)
+        else-word (withMark marked setMarksAt k (isSet how)) (notesAt + k) word stepsAt (omega arith)
+        ∙ else-word marked (setMarksAt + k / 32) _ stepsAt (omega arith) ∙ else-word flagged (marksAt + k / 32) _ stepsAt (omega arith)
         ∙ else-word row changedAt 1 stepsAt (omega arith)
 
 module _ (row values : List ℕ) (early : getD row stepsAt 0 < 1024) where
@@ -103,9 +106,10 @@ module _ (row values : List ℕ) (early : getD row stepsAt 0 < 1024) where
   same-carried Row.misfit = refl
   same-carried Row.stop = refl
   same-carried Row.skip = same-going (passed row) values (passed-count row)
-  same-carried (Row.assign k v) =
-      let n = notedRow row k (getD values k 0) in
-      same-going (passed n) (set values k v) (passed-count n ∙ noted-count row k (getD values k 0))
+  same-carried (Row.assign how k v) =
+      let x = getD values k 0 in
+      let n = notedRow row how k x v in
+      same-going (passed n) (set values k (changed how x v)) (passed-count n ∙ noted-count row how k x v)
   same-carried (Row.call first end a) =
       let d = getD row depthAt 0 in
       let n = newAct (passed row) d first end a in

@@ -13,7 +13,7 @@ use Rattle.layout.specs.Layout.{domainAt, namesAt, methodNamesAt, methodBodiesA
 use Rattle.model.specs.Base.{bytes, any, same}
 use Rattle.model.specs.Expression.{field, argument, apply, plus}
 use Rattle.model.specs.Text.{words, pieces}
-use Rattle.model.specs.Form.{assign, statementLine, formOf}
+use Rattle.model.specs.Form.{replace, assign, statementLine, formOf}
 use Rattle.model.specs.Library.{Library, noMember, classAt, member, memberPlace, among, asRecorded, statementsOf, methodNames}
 use Rattle.model.specs.Fault.{strange}
 use Rattle.model.specs.Read.{library}
@@ -62,7 +62,7 @@ withAncestors above =
         methods = record { origin = 0; name = bytes "m"; first = 0; count = 1 } ∷ [];
         latest = 0;
       } ∷ [];
-      statements = record { statement = record { guard = none; action = assign (bytes "f") (apply plus (field (bytes "f")) argument) }; at = 25; size = 13 } ∷ [];
+      statements = record { statement = record { guard = none; action = assign replace (bytes "f") (apply plus (field (bytes "f")) argument) }; at = 25; size = 13 } ∷ [];
       objects = record { name = bytes "o"; class = 0; values = [] } ∷ [];
     }
 

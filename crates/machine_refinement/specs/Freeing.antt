@@ -73,7 +73,7 @@ module _ (row : List ℕ) (size : length row ≡ rowWords) where
             ap (λ (j : ℕ). getD cleared j 0) e ∙ getD-append-add (replicate {A = ℕ} n 0) (drop n rest) (i - n) 0 ∙ getD-drop n rest (i - n) 0
             ∙ ap (λ (j : ℕ). getD rest j 0) k ∙ zero-there i (omega arith) h
 
-  -- ---- a row whose transaction set no value
+  -- ---- a row whose transaction changed no value
 
   unlocked-long : length (unlocked row) ≡ rowWords
   unfolding unlocked
@@ -113,9 +113,9 @@ module _ (row : List ℕ) (size : length row ≡ rowWords) where
         go true e = unnoted-at row k (omega arith) true e
         go false e = unnoted-at row k (omega arith) false e ∙ clean .notes k h e
 
-    -- Where no value was set there is no mark, and so no note.
-    unset : getD row changedAt 0 ≡ 0 → (i : ℕ) → marksAt ≤ i → i < rowWords → getD row i 0 ≡ 0
-    unset z i g h = go (decLt i spareAt) (decLt i notesAt)
+    -- Where no value was changed there is no mark, and so no note.
+    unchanged : getD row changedAt 0 ≡ 0 → (i : ℕ) → marksAt ≤ i → i < rowWords → getD row i 0 ≡ 0
+    unchanged z i g h = go (decLt i spareAt) (decLt i notesAt)
       where
         go : Dec (i < spareAt) → Dec (i < notesAt) → getD row i 0 ≡ 0
         go (yes l) n = clean .marks z i g l
@@ -132,7 +132,7 @@ module _ (row : List ℕ) (size : length row ≡ rowWords) where
       where
         go : Dec (i < marksAt) → getD (unlocked row) i 0 ≡ 0
         go (yes l) = unlocked-word i h (clean .locks i g l)
-        go (no l) = unlocked-word i h (λ e. unset z i (omega arith) h)
+        go (no l) = unlocked-word i h (λ e. unchanged z i (omega arith) h)
 
     released-word : getD row changedAt 0 ≡ 0 → (i : ℕ) → i < rowWords → getD (released row) i 0 ≡ 0
     unfolding released

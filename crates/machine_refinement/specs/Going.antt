@@ -1,4 +1,4 @@
--- When what a step leaves in a row matches the model's turn; and the turns that stay on the same object and set no value: a
+-- When what a step leaves in a row matches the model's turn; and the turns that stay on the same object and change no value: a
 -- skipped statement, a self-call, a reply, the end of a callee's body.
 use Prim.Native.Nat.{ℕ, suc, _+_, _-_, _*_, _%_, _≤_, _<_}
 use native.Mathlib.Omega.{arith}

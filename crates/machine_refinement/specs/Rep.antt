@@ -183,7 +183,7 @@ NowRep text tables p row (some r) = (phaseOf row ≡ 2) × (r ≡ runOf text p r
 abbrev pub Shallow : List ℕ → Type 0
 Shallow row = (getD row depthAt 0 ≤ 1) × ((i : ℕ) → shallowAt ≤ i → i < objectLocksAt → getD row i 0 ≡ 0)
 
--- What the row has not marked as written is 0: a note without its mark, the marks where no value was set, the words where no
+-- What the row has not marked as written is 0: a note without its mark, the marks where no value was changed, the words where no
 -- lock was taken, the activations past the first where no self-call was made.
 pub record Clean (row : List ℕ) : Type 0 where
   pub notes : (k : ℕ) → k < valuesMost → bit (getD row (marksAt + k / 32) 0) (k % 32) ≡ false → getD row (notesAt + k) 0 ≡ 0

@@ -10,16 +10,17 @@ use lib.ListN.{length, getD, take, drop}
 use lib.Seq.{drop-cons}
 use lib.Dec.{ltb}
 use borrow.Author.Tests.{ltb-true}
-use Rattle.layout.specs.Layout.{valuesMost, depthAt, stepsAt, sumAt, objectAt, changedAt, activationsAt, nextAt, endAt, argAt, gotAt, replyAt, activationWords, objectLocksAt, marksAt, notesAt, rowWords}
+use Rattle.layout.specs.Layout.{valuesMost, depthAt, stepsAt, sumAt, objectAt, changedAt, activationsAt, nextAt, endAt, argAt, gotAt, replyAt, activationWords, objectLocksAt, marksAt, setMarksAt, notesAt, rowWords}
 use Rattle.model.specs.Expression.{number}
 use Rattle.model.specs.Form.{Statement, reply}
 use Rattle.model.specs.Library.{Library, Placed}
 use Rattle.model.specs.Vector.{Program}
 use Rattle.model.specs.Message.{Target, Message, Activation}
 use Rattle.model.specs.Message as Model
+use Rattle.model.specs.Undo.{sumAdded}
 use Rattle.laws.specs.Bits.{bit}
 use Rattle.catalog.specs.View.{nameOf}
-use Rattle.machine_words.specs.Row.{act, noteIf, noteAt}
+use Rattle.machine_words.specs.Row.{act, noteBy, noteAt}
 use Rattle.machine_words.specs.Turn.{targetThere}
 use Rattle.laws.specs.Lists.{map-at}
 use Rattle.machine_refinement.specs.Rep.{targetBy, messageOf, statementAt, between, activationOf, stackOf, objectsFrom, runOf, Running}
@@ -85,17 +86,24 @@ message-same text row row′ alike = λ i. record {
   argument = alike 8 (omega arith) (omega arith) i;
 }
 
-pub note-same : (row row′ : List ℕ) → Alike marksAt rowWords row row′ → (k : ℕ) → noteAt row′ k ≡ noteAt row k
+-- A value's note by its mark and its word.
+pub note-alike : (row row′ : List ℕ) (k : ℕ)
+    → (k < valuesMost → (bit (getD row′ (setMarksAt + k / 32) 0) (k % 32) ≡ bit (getD row (setMarksAt + k / 32) 0) (k % 32)) × (getD row′ (notesAt + k) 0 ≡ getD row (notesAt + k) 0))
+    → noteAt row′ k ≡ noteAt row k
 unfolding noteAt
-note-same row row′ alike k = go (ltb k valuesMost) refl
+note-alike row row′ k same = go (ltb k valuesMost) refl
   where
     go : (b : Bool) → ltb k valuesMost ≡ b
-        → cond b (noteIf (bit (getD row′ (marksAt + k / 32) 0) (k % 32)) (getD row′ (notesAt + k) 0)) none
-        ≡ cond b (noteIf (bit (getD row (marksAt + k / 32) 0) (k % 32)) (getD row (notesAt + k) 0)) none
-    go true e =
-        let h = ltb-true k valuesMost e in
-        ap₂ (λ (m v : ℕ). noteIf (bit m (k % 32)) v) (alike (marksAt + k / 32) (omega arith) (omega arith)) (alike (notesAt + k) (omega arith) (omega arith))
+        → cond b (noteBy (bit (getD row′ (setMarksAt + k / 32) 0) (k % 32)) (getD row′ (notesAt + k) 0)) (sumAdded 0)
+        ≡ cond b (noteBy (bit (getD row (setMarksAt + k / 32) 0) (k % 32)) (getD row (notesAt + k) 0)) (sumAdded 0)
+    go true e = let s = same (ltb-true k valuesMost e) in ap₂ noteBy (s .0) (s .1)
     go false e = refl
+
+pub note-same : (row row′ : List ℕ) → Alike marksAt rowWords row row′ → (k : ℕ) → noteAt row′ k ≡ noteAt row k
+note-same row row′ alike k = note-alike row row′ k (λ h. (
+  ap (λ (m : ℕ). bit m (k % 32)) (alike (setMarksAt + k / 32) (omega arith) (omega arith)),
+  alike (notesAt + k) (omega arith) (omega arith),
+))
 
 -- ---- the run
 

@@ -2,22 +2,23 @@
 -- what the words represent where a call writes one row.
 use Prim.Native.Nat.{ℕ, _+_, _/_, _%_, _<_}
 use native.Mathlib.Omega.{arith}
-use mathlib.Core.Path.{_≡_, refl, sym, ap, subst, _∙_}
+use mathlib.Core.Path.{_≡_, refl, sym, ap, ap₂, subst, _∙_}
 use mathlib.Core.Logic.{_≢_}
 use mathlib.Core.Bool.{Bool, true, false, cond}
 use mathlib.Core.Option.{Option, none, some}
 use mathlib.Core.List.{List}
-use lib.ListN.{length, getD}
+use lib.ListN.{length}
 use lib.Dec.{ltb}
-use Rattle.layout.specs.Layout.{valuesMost, marksAt, notesAt, rowWords}
+use Rattle.layout.specs.Layout.{valuesMost, setMarksAt, notesAt, rowWords}
 use Rattle.model.specs.Base.{put}
 use Rattle.model.specs.Vector.{Program}
 use Rattle.model.specs.Message.{Run}
+use Rattle.model.specs.Undo.{sumAdded}
 use Rattle.model.specs.Service.{Slot, closed, opened, Transaction, World, withFields, withSlot, newTransaction, standing}
 use Rattle.model.specs.Machine.{service}
 use Rattle.laws.specs.Basics.{at-or, put-same, put-other}
 use Rattle.laws.specs.Bits.{bit, bit-zero}
-use Rattle.machine_words.specs.Row.{noteIf, noteAt, blank}
+use Rattle.machine_words.specs.Row.{noteBy, noteAt, blank}
 use Rattle.machine_words.specs.Calls.{tablesOf, rowOf, phaseOf, withRow}
 use Rattle.machine_words.specs.Rows.{with-same, with-other, with-tables, with-fit, fit-is}
 use Rattle.machine_refinement.specs.Rep.{Fits, NowRep, Clean, Holds, OpenRep, SlotRep, Rep}
@@ -55,14 +56,15 @@ pub record StandingRep (p : Program) (row : List ℕ) (t : Transaction (service 
   pub clean : Clean row
   pub locks : Holds p row (t .locks)
 
--- A blank row has no notes.
-blank-notes : (k : ℕ) → noteAt blank k ≡ none
+-- In a blank row nothing was added to any value, and none was set.
+blank-notes : (k : ℕ) → noteAt blank k ≡ sumAdded 0
 unfolding noteAt
 blank-notes k =
-    ap (λ (b : Bool). cond (ltb k valuesMost) (noteIf b (getD blank (notesAt + k) 0)) none)
-    (ap (λ (w : ℕ). bit w (k % 32)) (blank-word (marksAt + k / 32)) ∙ bit-zero (k % 32)) ∙ go (ltb k valuesMost)
+    ap₂ (λ (b : Bool) (w : ℕ). cond (ltb k valuesMost) (noteBy b w) (sumAdded 0))
+    (ap (λ (w : ℕ). bit w (k % 32)) (blank-word (setMarksAt + k / 32)) ∙ bit-zero (k % 32)) (blank-word (notesAt + k))
+    ∙ go (ltb k valuesMost)
   where
-    go : (b : Bool) → _≡_ {A = Option ℕ} (cond b none none) none
+    go : (b : Bool) → cond b (sumAdded 0) (sumAdded 0) ≡ sumAdded 0
     go true = refl
     go false = refl
 

@@ -12,7 +12,7 @@ use Rattle.layout.specs.Layout.{valuesMost, valueCountAt, objectClassAt, object
 use Rattle.model.specs.Text.{words}
 use Rattle.model.specs.Word.{Name}
 use Rattle.model.specs.Expression.{Expression, valueOf}
-use Rattle.model.specs.Form.{Action, send, sendPrefixed, Statement, Form, formOf}
+use Rattle.model.specs.Form.{Change, Action, send, sendPrefixed, Statement, Form, formOf}
 use Rattle.model.specs.Form as Line
 use Rattle.model.specs.Library.{Library, Member, classAt, memberPlace, among, classNumber, className, bodyOf}
 use Rattle.model.specs.Fault.{strange, strangeGuard}
@@ -25,9 +25,9 @@ use Rattle.theory.specs.NamedRuns.{classOn, NamedRun, KnownAction, guard-known,
 use Rattle.catalog.specs.View.{partOf, statementWord, objectWord, classCount, statementCount, objectCount, memberCount, membersOf}
 use Rattle.machine_words.specs.Row.{Turn, misfit, stop, skip, assign, call, reply, act, carried}
 use Rattle.catalog.specs.Bodies.{bodyIn}
-use Rattle.machine_words.specs.Turn.{valuesAt, valueIn, withValue, setTurn, callTurn, actionTurn, guardTurn, statementTurn, formTurn, lineTurn}
+use Rattle.machine_words.specs.Turn.{valuesAt, valueIn, withValue, assignTurn, callTurn, actionTurn, guardTurn, statementTurn, formTurn, lineTurn}
 use Rattle.machine_refinement.specs.Rep.{Fits, Running, messageOf, statementAt, between, activationOf, stackOf, objectsFrom, runOf}
-use Rattle.machine_refinement.specs.Tables.{methodFor, statement-total, class-is, body-found, body-is, body-end, room, set-is, value-is}
+use Rattle.machine_refinement.specs.Tables.{methodFor, statement-total, class-is, body-found, body-is, body-end, room, assign-is, value-is}
 use Rattle.machine_refinement.specs.Runs.{between-more, stack-length}
 use Rattle.machine_refinement.specs.Outcomes.{Comes, by, halts, early-on, late-on, late-call, turn-on, rest-named}
 use Rattle.machine_refinement.specs.Going.{skip-goes, reply-goes, call-goes}
@@ -94,7 +94,7 @@ module _ (text tables : List ℕ) (p : Program) (fits : Fits text tables p) (row
       -- Whatever the action, the 1,024th step stops it.
       late-any : 1024 ≤ suc (getD row stepsAt 0) → (x : Action) (b : Bool) → limited (guarded p r o a′ below fields x b) ≡ stops
       late-any h x false = late-on text p row (a′ ∷ below) idle h
-      late-any h (Line.assign f e) true = late-on text p row (a′ ∷ below) (storeAt (placeOf p o f) (worth a′ fields e)) h
+      late-any h (Line.assign how f e) true = late-on text p row (a′ ∷ below) (storeAt how (placeOf p o f) (worth a′ fields e)) h
       late-any h (send m e) true = late-call text p row (opened (bodyOf l (p .resolve) (Model.classOf p o) m) (worth a′ fields e) ∷ a′ ∷ below)
           (leb 8 (length (a′ ∷ below))) h
       late-any h (sendPrefixed c m e) true = late-call text p row
@@ -125,11 +125,11 @@ module _ (text tables : List ℕ) (p : Program) (fits : Fits text tables p) (row
         unfolding carried
         skips = by refl (early-on text p row (a′ ∷ below) idle early) (record { matches = skip-goes text tables p row values size runs k deep early more })
 
-        assigns : (i v : ℕ) → i < valuesMost → Now (assign i v) (limited (onward r (a′ ∷ below) (store i v)))
+        assigns : (how : Change) (i v : ℕ) → i < valuesMost → Now (assign how i v) (limited (onward r (a′ ∷ below) (store how i v)))
         unfolding carried
-        assigns i v h =
-            by refl (early-on text p row (a′ ∷ below) (store i v) early)
-            (record { matches = assign-goes text tables p row values size runs k deep early more i v h })
+        assigns how i v h =
+            by refl (early-on text p row (a′ ∷ below) (store how i v) early)
+            (record { matches = assign-goes text tables p row values size runs k deep early more how i v h })
 
         replies : (v : ℕ) → Now (reply v) (limited (onward r (replied a′ v ∷ below) idle))
         unfolding carried
@@ -170,12 +170,12 @@ module _ (text tables : List ℕ) (p : Program) (fits : Fits text tables p) (row
         -- Each action.
         actions : (x : Action) → KnownAction l (classOn p o) x → Now (actionTurn text tables c base depth value x) (limited (perform p r o a′ below fields x))
         unfolding actionTurn activationOf className
-        actions (Line.assign f e) known =
+        actions (Line.assign how f e) known =
             let v = valueOf fields (act row k argAt) (act row k gotAt) e in
             let i = base + memberPlace (membersOf text tables c 0) f in
-            let there = set-is text tables p fits o here f (known .0) in
-            by (ap (λ (y : Option ℕ). withValue y (setTurn text tables c base f)) (worth-is e (known .1)) ∙ there .2 v)
-            (ap (λ (y : Option ℕ). limited (onward r (a′ ∷ below) (storeAt y v))) (there .0)) (assigns i v (omega (arith, there .1)))
+            let there = assign-is text tables p fits o here how f (known .0) in
+            by (ap (λ (y : Option ℕ). withValue y (assignTurn text tables c base how f)) (worth-is e (known .1)) ∙ there .2 v)
+            (ap (λ (y : Option ℕ). limited (onward r (a′ ∷ below) (storeAt how y v))) (there .0)) (assigns how i v (omega (arith, there .1)))
         actions (send m e) known =
             let there = ap (λ (d : ℕ). bodyIn text tables d m) (sym (class-is text tables p fits o here)) ∙ body-found text tables p fits (Model.classOf p o) m (known .0) in
             by (ap₂ (λ (y : Option ℕ) (b : Option Member). withValue y (callTurn depth b)) (worth-is e (known .1)) there) refl

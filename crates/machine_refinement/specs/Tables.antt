@@ -14,6 +14,7 @@ use borrow.Author.Tests.{lt-ltb, lt-leb, ltb-true, ltb-false, eqb-true}
 use Rattle.layout.specs.Layout.{valueCountAt, domainAt, namesAt, kindWords, methodNamesAt, objectClassAt, objectValuesAt}
 use Rattle.model.specs.Word.{Name}
 use Rattle.model.specs.Expression.{Expression, valueOf}
+use Rattle.model.specs.Form.{Change}
 use Rattle.model.specs.Library.{Library, Member, Class, Object, Resolution, noMember, classAt, member, memberPlace, among, asRecorded, statementsOf, bodyOf, methodNames}
 use Rattle.model.specs.Fault.{strange}
 use Rattle.model.specs.Vector.{Program}
@@ -29,7 +30,7 @@ use Rattle.laws.specs.Lists.{both-left, both-right, map-at}
 use Rattle.laws.specs.Lookup.{place-known, name-known, past-classes}
 use Rattle.machine_words.specs.Row.{assign, misfit}
 use Rattle.catalog.specs.Bodies.{found, bodyIn, namedAt, bodyAt}
-use Rattle.machine_words.specs.Turn.{targetThere, inTarget, valuesAt, fieldIn, valueIn, setTurn}
+use Rattle.machine_words.specs.Turn.{targetThere, inTarget, valuesAt, fieldIn, valueIn, assignTurn}
 use Rattle.machine_refinement.specs.Rep.{Fits, between, targetBy}
 
 -- A class's method of that name.
@@ -254,12 +255,12 @@ module _ (text tables : List ℕ) (p : Program) (fits : Fits text tables p) wher
         ∙ ap₂ (λ (n b : ℕ). cond (ltb (memberPlace (membersOf text tables own 0) f) n) (some (b + memberPlace (membersOf text tables own 0) f)) none)
         (member-count text tables own 0) (sym (fits .bases o h))
 
-    -- Setting a field that the object's class has.
-    pub set-is : (f : Name) → among (classAt (p .library) (Model.classOf p o) .fields) f ≡ true
+    -- Changing a field that the object's class has.
+    pub assign-is : (how : Change) (f : Name) → among (classAt (p .library) (Model.classOf p o) .fields) f ≡ true
         → let i = objectWord tables o objectValuesAt + memberPlace (membersOf text tables own 0) f in
-        (placeOf p o f ≡ some i) × (i < getD tables valueCountAt 0) × ((v : ℕ) → setTurn text tables own (objectWord tables o objectValuesAt) f v ≡ assign i v)
-    unfolding setTurn
-    set-is f e =
+        (placeOf p o f ≡ some i) × (i < getD tables valueCountAt 0) × ((v : ℕ) → assignTurn text tables own (objectWord tables o objectValuesAt) how f v ≡ assign how i v)
+    unfolding assignTurn
+    assign-is how f e =
         let k = memberPlace (membersOf text tables own 0) f in
         let size = memberCount tables own 0 in
         let there : among (membersOf text tables own 0) f ≡ true = ap (λ (ms : List Member). among ms f) (sym own-fields) ∙ e in
@@ -267,7 +268,7 @@ module _ (text tables : List ℕ) (p : Program) (fits : Fits text tables p) wher
         let t : ltb k size ≡ true = lt-ltb k size inside in (
           place-is f ∙ ap (λ (b : Bool). cond b (some (objectWord tables o objectValuesAt + k)) none) t,
           omega (arith, room),
-          λ v. ap (λ (b : Bool). cond b (assign (objectWord tables o objectValuesAt + k) v) misfit) t,
+          λ v. ap (λ (b : Bool). cond b (assign how (objectWord tables o objectValuesAt + k) v) misfit) t,
         )
 
     -- A field's value, by name.

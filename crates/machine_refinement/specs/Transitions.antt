@@ -7,7 +7,7 @@ use mathlib.Core.List.{List}
 use lib.ListN.{length, getD, set, length-set}
 use Rattle.layout.specs.Layout.{phaseAt, rowWords}
 use Rattle.model.specs.Vector.{Program}
-use Rattle.model.specs.Message.{Effect, idle, store, Run, Outcome, goes, ends, stops, turn}
+use Rattle.model.specs.Message.{changed, Effect, idle, store, Run, Outcome, goes, ends, stops, turn}
 use Rattle.model.specs.Message as Model
 use Rattle.model.specs.Undo.{Undo, noted, putBack}
 use Rattle.model.specs.Service.{Answer, done, stopped, closed, opened, Transaction, World, withFields, withSlot, advanced, undone, after, stepped}
@@ -34,7 +34,7 @@ Follows text p x y = (x .answered ≡ y .0) × Rep text (x .words) (x .values) p
 
 act-length : (e : Effect) (values : List ℕ) → length (Model.act e values) ≡ length values
 act-length idle values = refl
-act-length (store k v) values = length-set values k v
+act-length (store how k v) values = length-set values k (changed how (getD values k 0) v)
 
 module _ (text ws values : List ℕ) (p : Program) (w₀ : World (service p)) (rep : Rep text ws values p (withFields (service p) w₀ values))
     (s : ℕ) (h : s < 8) where

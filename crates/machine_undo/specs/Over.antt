@@ -4,16 +4,20 @@ use native.Mathlib.Nat.{not-suc-le-zero, le-of-suc-le-suc, one-mul}
 use native.Mathlib.Numerals.{add-one}
 use native.Mathlib.Omega.{arith}
 use mathlib.Core.Path.{_≡_, refl, sym, ap, subst, _∙_}
+use mathlib.Core.Bool.{Bool, true, false}
 use mathlib.Core.List.{List, [], _∷_, _++_}
 use lib.ListN.{length, getD, take, drop, set, replicate}
 use lib.Pow.{shl-exact}
-use lib.Bits.{bitOr}
 use lib.Count.{trailingZeros}
+use mir.Val.{boolByte}
 use borrow.Author.Tests.{lt-ltb, le-ltb, eq-eqb, ne-eqb}
-use Rattle.layout.specs.Layout.{valuesMost, changedAt, marksAt, notesAt}
-use Rattle.model.specs.Undo.{restored}
+use Rattle.layout.specs.Layout.{valuesMost, changedAt, marksAt, setMarksAt, notesAt}
+use Rattle.model.specs.Base.{digit}
+use Rattle.model.specs.Form.{Change}
+use Rattle.model.specs.Undo.{decreased, restored}
 use Rattle.laws.specs.Bits.{bit, zeros-bit, bit-fits}
-use Rattle.machine_words.specs.Row.{noteAt, notedRow}
+use Rattle.laws.specs.Sums.{nothing-back}
+use Rattle.machine_words.specs.Row.{noteAt, isSet, noteWord, withMark, notedRow}
 
 -- The first i elements are those of `made`, the others those of `old`.
 abbrev pub over : ℕ → List ℕ → List ℕ → List ℕ
@@ -82,40 +86,51 @@ module _ (made old : List ℕ) (e : length made ≡ length old) (now : List ℕ)
 
 -- ---- reading a note
 
-module _ (row : List ℕ) (k v : ℕ) where
+-- A difference of 32 bits is the value with the sum taken back.
+pub less-is : (x sum r : ℕ) → x < 4294967296 → sum < 4294967296 → r < 4294967296 → (r + sum) % 4294967296 ≡ x → r ≡ decreased x sum
+less-is x sum r h l f e = rw (lt-ltb x 4294967296 h) (omega arith)
+
+module _ (row : List ℕ) (k : ℕ) where
+  -- The bit that tells whether value k was set.
   abbrev pub marked : ℕ
-  marked = getD row (marksAt + k / 32) 0 / 2 ^ (k % 32) % 2
+  marked = getD row (setMarksAt + k / 32) 0 / 2 ^ (k % 32) % 2
 
-  pub note-kept : k < valuesMost → marked ≡ 1 → getD row (notesAt + k) 0 ≡ restored (noteAt row k) v
-  unfolding noteAt bit
-  note-kept h e = rw (lt-ltb k valuesMost h, eq-eqb marked 1 e)
+  module _ (v : ℕ) where
+    pub back-old : k < valuesMost → marked ≡ 1 → getD row (notesAt + k) 0 ≡ restored (noteAt row k) v
+    unfolding noteAt bit
+    back-old h e = rw (lt-ltb k valuesMost h, eq-eqb marked 1 e)
 
-  pub note-none : k < valuesMost → (marked ≡ 1 → ⊥) → v ≡ restored (noteAt row k) v
-  unfolding noteAt bit
-  note-none h e = rw (lt-ltb k valuesMost h, ne-eqb marked 1 e)
+    pub back-less : k < valuesMost → (marked ≡ 1 → ⊥) → decreased v (getD row (notesAt + k) 0) ≡ restored (noteAt row k) v
+    unfolding noteAt bit
+    back-less h e = rw (lt-ltb k valuesMost h, ne-eqb marked 1 e)
 
-  pub note-past : valuesMost ≤ k → v ≡ restored (noteAt row k) v
-  unfolding noteAt
-  note-past h = rw (le-ltb k valuesMost h)
+    pub back-past : valuesMost ≤ k → v ≡ restored (noteAt row k) v
+    unfolding noteAt
+    back-past h = rw (le-ltb k valuesMost h) (sym (nothing-back v))
 
--- ---- making a note
+  -- ---- making a note
 
-module _ (row : List ℕ) (k v : ℕ) where
-  pub noted-past : valuesMost ≤ k → row ≡ notedRow row k v
-  unfolding notedRow
-  noted-past h = rw (le-ltb k valuesMost h)
+  module _ (how : Change) (x v : ℕ) where
+    pub noted-past : valuesMost ≤ k → row ≡ notedRow row how k x v
+    unfolding notedRow
+    noted-past h = rw (le-ltb k valuesMost h)
 
-  pub noted-kept : k < valuesMost → marked row k v ≡ 1 → row ≡ notedRow row k v
-  unfolding notedRow bit
-  noted-kept h e = rw (lt-ltb k valuesMost h, eq-eqb (marked row k v) 1 e)
+    pub noted-kept : k < valuesMost → marked ≡ 1 → row ≡ notedRow row how k x v
+    unfolding notedRow bit
+    noted-kept h e = rw (lt-ltb k valuesMost h, eq-eqb marked 1 e)
 
-  pub noted-new : k < valuesMost → (marked row k v ≡ 1 → ⊥)
-      → set (set (set row changedAt 1) (marksAt + k / 32) (bitOr (getD row (marksAt + k / 32) 0) (2 ^ (k % 32)))) (notesAt + k) v ≡ notedRow row k v
-  unfolding notedRow bit
-  noted-new h e = rw (lt-ltb k valuesMost h, ne-eqb (marked row k v) 1 e)
+    pub noted-new : k < valuesMost → (marked ≡ 1 → ⊥)
+        → set (withMark (withMark (set row changedAt 1) marksAt k true) setMarksAt k (isSet how)) (notesAt + k) (noteWord how (getD row (notesAt + k) 0) x v) ≡ notedRow row how k x v
+    unfolding notedRow bit
+    noted-new h e = rw (lt-ltb k valuesMost h, ne-eqb marked 1 e)
 
 pub one-shifted : (k : ℕ) → k < 32 → (1 * 2 ^ k) % 2 ^ 32 ≡ 2 ^ k
 one-shifted k h = shl-exact {a = 1} 1 k 32 (omega arith) (omega arith) ∙ one-mul (2 ^ k)
+
+-- The bit of a test, as the code shifts it.
+pub test-shifted : (test : Bool) (k : ℕ) → k < 32 → (boolByte test * 2 ^ k) % 2 ^ 32 ≡ digit test * 2 ^ k
+test-shifted true k h = one-shifted k h ∙ sym (one-mul (2 ^ k))
+test-shifted false k h = omega arith
 
 -- The lowest mark of a word other than 0, as the code shifts it: it is one of the word's.
 module _ (left : ℕ) (few : left < 2 ^ 32) (some : left ≡ 0 → ⊥) where

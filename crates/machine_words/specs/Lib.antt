@@ -1,3 +1,4 @@
+pub mod Said
 pub mod Row
 pub mod Turn
 pub mod Request

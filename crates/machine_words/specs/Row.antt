@@ -3,16 +3,19 @@
 -- - phase: 0 closed, 1 open, 2 a message runs; kind of the target: 0 an object, 1 a class, 2 a domain
 -- - the method's name: place * 32 + length
 -- - class c's locks (M, false) are at `classLocksAt` + c, its locks (M, true) at `wholeLocksAt` + c
--- - value k was set where bit k % 32 of the word at `marksAt` + k / 32 is 1; the value that it had before is at `notesAt` + k
-use Prim.Native.Nat.{ℕ, _+_, _*_, _-_, _/_, _%_, _^_}
+-- - value k was set or added to where bit k % 32 of the word at `marksAt` + k / 32 is 1, and set where that at `setMarksAt` + k / 32
+--   is 1; the word of its undo note is at `notesAt` + k
+use Prim.Native.Nat.{ℕ, zero, suc, _+_, _*_, _-_, _/_, _%_, _^_}
 use mathlib.Core.Bool.{Bool, true, false, cond}
-use mathlib.Core.Option.{Option, none, some}
-use mathlib.Core.List.{List, _++_}
+use mathlib.Core.List.{List, [], _∷_, _++_}
 use lib.ListN.{getD, set, drop, replicate}
 use lib.Bits.{bitOr}
 use lib.Dec.{eqb, ltb}
-use Rattle.layout.specs.Layout.{valuesMost, phaseAt, depthAt, stepsAt, sumAt, objectAt, argumentAt, changedAt, lockMarksAt, calledAt, activationsAt, nextAt, endAt, gotAt, replyAt, activationWords, shallowWords, objectLocksAt, marksAt, spareAt, notesAt, rowWords}
-use Rattle.model.specs.Undo.{Undo, putBack}
+use Rattle.layout.specs.Layout.{valuesMost, phaseAt, depthAt, stepsAt, sumAt, objectAt, argumentAt, changedAt, lockMarksAt, calledAt, activationsAt, nextAt, endAt, gotAt, replyAt, activationWords, shallowWords, objectLocksAt, marksAt, setMarksAt, spareAt, notesAt, rowWords}
+use Rattle.model.specs.Base.{digit}
+use Rattle.model.specs.Form.{Change, replace, increase}
+use Rattle.model.specs.Message.{changed}
+use Rattle.model.specs.Undo.{Note, sumAdded, oldValue, Undo, decreased, putBack}
 use Rattle.model.specs.Service.{Answer, going, refuse, stopped}
 use Rattle.model.specs.Service as Told
 use Rattle.laws.specs.Bits.{bit}
@@ -23,8 +26,8 @@ pub data Turn : Type 0 where
   misfit stop : Turn
   -- a statement that is skipped
   skip : Turn
-  -- value k becomes v
-  assign : ℕ → ℕ → Turn
+  -- value k is changed by v
+  assign : Change → ℕ → ℕ → Turn
   -- a self-call: the callee's first statement, the one past its last, its argument
   call : ℕ → ℕ → ℕ → Turn
   -- the body's reply
@@ -68,21 +71,38 @@ passed row = withAct row (top row) nextAt ((act row (top row) nextAt + 1) % 4294
 
 -- ---- undo notes
 
-abbrev pub noteIf : Bool → ℕ → Option ℕ
-noteIf true v = some v
-noteIf false v = none
+-- The note with the word w, of a value that was set or not.
+abbrev pub noteBy : Bool → ℕ → Note
+noteBy true w = oldValue w
+noteBy false w = sumAdded w
 
 -- The undo notes that a row holds.
 unfoldable pub noteAt : List ℕ → Undo
 unfolding bit
-noteAt row k = cond (ltb k valuesMost) (noteIf (bit (getD row (marksAt + k / 32) 0) (k % 32)) (getD row (notesAt + k) 0)) none
+noteAt row k = cond (ltb k valuesMost) (noteBy (bit (getD row (setMarksAt + k / 32) 0) (k % 32)) (getD row (notesAt + k) 0)) (sumAdded 0)
 
--- The row with the undo note of value k, where there is none yet and the row has room for it: the value was v.
-unfoldable pub notedRow : List ℕ → ℕ → ℕ → List ℕ
+-- Whether a change is a set.
+abbrev pub isSet : Change → Bool
+isSet replace = true
+isSet increase = false
+
+-- The word of the note of a value x that is changed by v, where `sum` was added to it so far.
+abbrev pub noteWord : Change → ℕ → ℕ → ℕ → ℕ
+noteWord replace sum x v = decreased x sum
+noteWord increase sum x v = (sum + v) % 4294967296
+
+-- The row with bit k % 32 of the word at `at` + k / 32 set where the test passes.
+abbrev pub withMark : List ℕ → ℕ → ℕ → Bool → List ℕ
+withMark row at k test = set row (at + k / 32) (bitOr (getD row (at + k / 32) 0) (digit test * 2 ^ (k % 32)))
+
+-- The row with the undo note of value k, which is x and is changed by v: made or added to, unless the value was set already or the
+-- row has no room for it.
+unfoldable pub notedRow : List ℕ → Change → ℕ → ℕ → ℕ → List ℕ
 unfolding bit
-notedRow row k v =
-    let marks = getD row (marksAt + k / 32) 0 in
-    cond (ltb k valuesMost) (cond (bit marks (k % 32)) row (set (set (set row changedAt 1) (marksAt + k / 32) (bitOr marks (2 ^ (k % 32)))) (notesAt + k) v)) row
+notedRow row how k x v =
+    let new =
+    set (withMark (withMark (set row changedAt 1) marksAt k true) setMarksAt k (isSet how)) (notesAt + k) (noteWord how (getD row (notesAt + k) 0) x v) in
+    cond (ltb k valuesMost) (cond (bit (getD row (setMarksAt + k / 32) 0) (k % 32)) row new) row
 
 -- ---- locks
 
@@ -126,22 +146,22 @@ objectRow o first end sum row =
 abbrev pub blank : List ℕ
 blank = replicate rowWords 0
 
--- The row with the undo notes that were made cleared.
-unfoldable pub unnoted : List ℕ → List ℕ
-unfolding bit putBack
-unnoted row = putBack (λ i. cond (ltb i notesAt) none (noteIf (bit (getD row (marksAt + (i - notesAt) / 32) 0) ((i - notesAt) % 32)) 0)) row
-
 -- The row with the words that pass the test cleared.
 unfoldable pub zeroed : (ℕ → Bool) → List ℕ → List ℕ
-unfolding putBack
-zeroed p row = putBack (λ i. noteIf (p i) 0) row
+zeroed p [] = []
+zeroed p (w ∷ row) = cond (p zero) 0 w ∷ zeroed (λ i. p (suc i)) row
+
+-- The row with the undo notes that were made cleared.
+unfoldable pub unnoted : List ℕ → List ℕ
+unfolding zeroed bit
+unnoted row = zeroed (λ i. cond (ltb i notesAt) false (bit (getD row (marksAt + (i - notesAt) / 32) 0) ((i - notesAt) % 32))) row
 
 -- The row with the words cleared where locks were taken.
 unfoldable pub unlocked : List ℕ → List ℕ
 unfolding zeroed bit
 unlocked row = zeroed (λ i. bit (getD row lockMarksAt 0) (i / 8)) row
 
--- The row with what a transaction that set no value has written cleared: its locks, its message, the first activation, and the
+-- The row with what a transaction that changed no value has written cleared: its locks, its message, the first activation, and the
 -- others where it made a self-call.
 unfoldable pub released : List ℕ → List ℕ
 unfolding unlocked
@@ -149,7 +169,7 @@ released row =
     let rest = unlocked row in
     cond (eqb (getD row calledAt 0) 0) (replicate shallowWords 0 ++ drop shallowWords rest) (replicate objectLocksAt 0 ++ drop objectLocksAt rest)
 
--- "frees the slot": the row is released; where a value was set, the words before `spareAt` and the notes that were made are
+-- "frees the slot": the row is released; where a value was changed, the words before `spareAt` and the notes that were made are
 -- cleared. Every other word of a row that represents an open slot is 0, so that the row is blank then
 -- (crates/machine_refinement/specs/Freeing.antt), and not every note needs to be written.
 unfoldable pub freed : List ℕ → List ℕ
@@ -169,7 +189,9 @@ unfolding putBack noteAt freed notedRow skipRow callRow replyRow backRow objectR
 carried row values misfit = record { answered = refuse 24; row = row; values = values }
 carried row values stop = undoneTo stopped row values
 carried row values skip = goingTo (skipRow row) values
-carried row values (assign k v) = goingTo (skipRow (notedRow row k (getD values k 0))) (set values k v)
+carried row values (assign how k v) =
+    let x = getD values k 0 in
+    goingTo (skipRow (notedRow row how k x v)) (set values k (changed how x v))
 carried row values (call first end argument) = goingTo (callRow first end argument row) values
 carried row values (reply v) = goingTo (replyRow v row) values
 carried row values (back v) = goingTo (backRow v row) values

@@ -10,7 +10,7 @@ use Rattle.layout.specs.Layout.{domainAt, objectClassAt, objectValuesAt, depthA
 use Rattle.model.specs.Text.{words}
 use Rattle.model.specs.Word.{Name}
 use Rattle.model.specs.Expression.{Expression, valueOf}
-use Rattle.model.specs.Form.{Action, send, sendPrefixed, Statement, Form, classLine, fieldLine, methodLine, statementLine, endLine, objectLine, malformed, formOf}
+use Rattle.model.specs.Form.{Change, Action, send, sendPrefixed, Statement, Form, classLine, fieldLine, methodLine, statementLine, endLine, objectLine, malformed, formOf}
 use Rattle.model.specs.Form as Line
 use Rattle.model.specs.Library.{Member, memberPlace, classNumber}
 use Rattle.model.specs.Fault.{strange}
@@ -75,12 +75,12 @@ abbrev pub withValue : Option ℕ → (ℕ → Turn) → Turn
 withValue none turn = misfit
 withValue (some v) turn = turn v
 
--- The turn that sets field f of an object of class c, whose values begin at `base`, to v.
-unfoldable pub setTurn : List ℕ → List ℕ → ℕ → ℕ → Name → ℕ → Turn
+-- The turn that changes field f of an object of class c, whose values begin at `base`, by v.
+unfoldable pub assignTurn : List ℕ → List ℕ → ℕ → ℕ → Change → Name → ℕ → Turn
 unfolding memberPlace membersOf memberCount
-setTurn text tables c base f v =
+assignTurn text tables c base how f v =
     let k = memberPlace (membersOf text tables c 0) f in
-    cond (ltb k (memberCount tables c 0)) (assign (base + k) v) misfit
+    cond (ltb k (memberCount tables c 0)) (assign how (base + k) v) misfit
 
 -- A self-call to a body, unless it would be the ninth activation.
 abbrev pub callTurn : ℕ → Option Member → ℕ → Turn
@@ -89,8 +89,8 @@ callTurn depth (some b) v = cond (leb 8 depth) stop (call (b .first) (b .first +
 
 -- The turn of an action on an object of class c, with `depth` activations.
 unfoldable pub actionTurn : List ℕ → List ℕ → ℕ → ℕ → ℕ → (Expression → Option ℕ) → Action → Turn
-unfolding setTurn bodyIn classNumber libraryOf
-actionTurn text tables c base depth value (Line.assign f e) = withValue (value e) (setTurn text tables c base f)
+unfolding assignTurn bodyIn classNumber libraryOf
+actionTurn text tables c base depth value (Line.assign how f e) = withValue (value e) (assignTurn text tables c base how f)
 actionTurn text tables c base depth value (send m e) = withValue (value e) (callTurn depth (bodyIn text tables c m))
 actionTurn text tables c base depth value (sendPrefixed d m e) =
     withValue (value e) (callTurn depth (bodyIn text tables (classNumber (libraryOf text tables) d) m))

@@ -1,6 +1,13 @@
-// A row's activations, and putting a message on an object. What the words of the state mean is in specs/.
+// A row's activations, putting a message on an object, and how a statement changes a value. What the words of the state mean is in
+// specs/.
 ghost use mathlib.Core.Path.{_≡_};
 ghost use Rattle.machine_words.specs.Row.{act, top, withAct, newAct, objectRow};
+
+// How a value is changed: replaced by another, or increased by it.
+pub enum Change {
+    Replace,
+    Increase,
+}
 
 // A word of an activation.
 pub fn act(row: &[u32], activation: u32, place: u32) -> u32

@@ -20,15 +20,24 @@ unfoldable pub mask : List Bool → ℕ
 mask [] = 0
 mask (b ∷ bs) = mask bs * 2 + digit b
 
--- "a written field's read bit is 0"
-abbrev pub onlyRead : Mode → Bool
-onlyRead m = depends m && not (changes m)
+-- "a written field's read bit is 0"; "a field's bit is set in at most one mask": Read, Write and Add by their two tests.
+abbrev pub isRead : Mode → Bool
+isRead m = depends m && not (changes m)
+
+abbrev pub isWrite : Mode → Bool
+isWrite m = depends m && changes m
+
+abbrev pub isAdd : Mode → Bool
+isAdd m = changes m && not (depends m)
 
 abbrev pub readMask : Vector → ℕ
-readMask v = mask (map onlyRead v)
+readMask v = mask (map isRead v)
 
 abbrev pub writeMask : Vector → ℕ
-writeMask v = mask (map changes v)
+writeMask v = mask (map isWrite v)
+
+abbrev pub addMask : Vector → ℕ
+addMask v = mask (map isAdd v)
 
 -- "a u32 whose bit j says that i and j commute"
 abbrev pub commuteMask : List Vector → Vector → ℕ
@@ -49,15 +58,23 @@ unfoldable pub commutePart : Program → List ℕ
 unfolding flatMap mask commute
 commutePart p = flatMap (λ vs. flatMap (λ v. u32Bytes (commuteMask vs v)) vs) (p .vectors)
 
--- "three pairs of offset and length (u32 each), sorted by offset, the first offset 24, parts without gaps", then the parts
-abbrev pub withPairs : List ℕ → List ℕ → List ℕ → List ℕ
-withPairs a b c =
-    u32Bytes 24 ++ u32Bytes (length a) ++ u32Bytes (24 + length a) ++ u32Bytes (length b) ++ u32Bytes (24 + length a + length b) ++ u32Bytes (length c)
-    ++ a ++ b ++ c
+-- "a fourth part last .. with one add mask a method" (02, Ticket 6)
+unfoldable pub addsPart : Program → List ℕ
+unfolding flatMap mask
+addsPart p = flatMap (flatMap (λ v. u32Bytes (addMask v))) (p .vectors)
+
+-- Pairs of "offset and length (u32 each), sorted by offset, .. parts without gaps", for parts of these lengths, the first at `at`.
+abbrev pub pairsFrom : ℕ → List ℕ → List ℕ
+pairsFrom at [] = []
+pairsFrom at (n ∷ ns) = u32Bytes at ++ u32Bytes n ++ pairsFrom (at + n) ns
+
+-- Four pairs, so that "the first offset is 32", then the parts.
+abbrev pub withPairs : List ℕ → List ℕ → List ℕ → List ℕ → List ℕ
+withPairs a b c d = pairsFrom 32 (length a ∷ length b ∷ length c ∷ length d ∷ []) ++ a ++ b ++ c ++ d
 
 unfoldable pub imageOf : Program → List ℕ
-unfolding placesPart masksPart commutePart
-imageOf p = withPairs (placesPart (p .library)) (masksPart p) (commutePart p)
+unfolding placesPart masksPart commutePart addsPart
+imageOf p = withPairs (placesPart (p .library)) (masksPart p) (commutePart p) (addsPart p)
 
 abbrev pub imageIn : Reading → List ℕ
 imageIn (accepted l) = imageOf (program l)

@@ -14,7 +14,7 @@ use Rattle.model.specs.Vector.{Program, program}
 pub use Rattle.model.specs.Message.{Target, object, class, domain}
 use Rattle.model.specs.Message.{Message, classOf, visited, Effect, act, Run, begun, turn}
 use Rattle.model.specs.Lock.{Lock, domainOf, locksFor, locksClash}
-pub use Rattle.model.specs.Undo.{Undo, firstValue, noted, restored, putBack}
+pub use Rattle.model.specs.Undo.{Note, sumAdded, oldValue, Undo, renoted, noted, restored, putBack}
 use Rattle.model.specs.Alone.{alone}
 use Rattle.model.specs.Service as Calls
 pub use Rattle.model.specs.Service.{send, step, commit, abort, Answer, done, going, answer, refuse, held, stopped, World, Slot, closed, opened, Transaction}
@@ -57,7 +57,7 @@ service p =
       begun = begun p;
       turn = turn p;
       act = act;
-      clean = λ k. none;
+      clean = λ k. sumAdded 0;
       noted = noted;
       putBack = putBack;
       unlocked = [];

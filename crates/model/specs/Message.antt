@@ -8,7 +8,7 @@ use lib.Dec.{eqb, leb, ltb}
 use Rattle.model.specs.Base.{keep, upto}
 use Rattle.model.specs.Word.{Name}
 use Rattle.model.specs.Expression.{Expression, valueOf}
-use Rattle.model.specs.Form.{Action, assign, send, sendPrefixed, reply, Statement}
+use Rattle.model.specs.Form.{Change, replace, increase, Action, assign, send, sendPrefixed, reply, Statement}
 use Rattle.model.specs.Library.{classAt, classNumber, memberPlace, bodyOf}
 use Rattle.model.specs.Vector.{Program}
 use Rattle.model.specs.Service
@@ -69,18 +69,28 @@ valueAt fields (some k) = getD fields k 0
 abbrev pub look : Program → List ℕ → ℕ → Name → ℕ
 look p fields o f = valueAt fields (placeOf p o f)
 
--- What a step does to the fields: nothing, or it sets the value at a place.
+-- "adds E to F modulo 4,294,967,296". Every value is below that; one that were not would stay as it is, so that what an abort takes
+-- back is what was added, whatever the values.
+abbrev pub increased : ℕ → ℕ → ℕ
+increased x v = cond (ltb x 4294967296) ((x + v) % 4294967296) x
+
+-- The value x changed by v.
+abbrev pub changed : Change → ℕ → ℕ → ℕ
+changed replace x v = v
+changed increase x v = increased x v
+
+-- What a step does to the fields: nothing, or it changes the value at a place.
 pub data Effect : Type 0 where
   idle : Effect
-  store : ℕ → ℕ → Effect
+  store : Change → ℕ → ℕ → Effect
 
 abbrev pub act : Effect → List ℕ → List ℕ
 act idle fields = fields
-act (store k v) fields = set fields k v
+act (store how k v) fields = set fields k (changed how (getD fields k 0) v)
 
-abbrev pub storeAt : Option ℕ → ℕ → Effect
-storeAt none v = idle
-storeAt (some k) v = store k v
+abbrev pub storeAt : Change → Option ℕ → ℕ → Effect
+storeAt how none v = idle
+storeAt how (some k) v = store how k v
 
 -- ---- a running message
 
@@ -145,7 +155,7 @@ called r a below body v = cond (leb 8 (length (a ∷ below))) stops (onward r (o
 
 -- The statement's action on the object o, in the activation a, which then continues.
 abbrev pub perform : Program → Run → ℕ → Activation → List Activation → (Name → ℕ) → Action → Outcome
-perform p r o a below fields (assign f e) = onward r (a ∷ below) (storeAt (placeOf p o f) (worth a fields e))
+perform p r o a below fields (assign how f e) = onward r (a ∷ below) (storeAt how (placeOf p o f) (worth a fields e))
 perform p r o a below fields (send m e) = called r a below (bodyOf (p .library) (p .resolve) (classOf p o) m) (worth a fields e)
 perform p r o a below fields (sendPrefixed c m e) =
     called r a below (bodyOf (p .library) (p .resolve) (classNumber (p .library) c) m) (worth a fields e)

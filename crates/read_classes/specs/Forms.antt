@@ -10,7 +10,7 @@ use Rattle.model.specs.Base.{bytes, same, every}
 use Rattle.model.specs.Word.{Name, isName, isNumber, decimal}
 use Rattle.model.specs.Expression.{Expression, Parsed, parsed, unread, expression}
 use Rattle.text_lex.specs.Piece.{others}
-use Rattle.model.specs.Form.{Action, Form, classLine, fieldLine, methodLine, statementLine, endLine, objectLine, malformed, Keyword, classWord, fieldWord, methodWord, endWord, objectWord, setWord, sendWord, replyWord, whenWord, otherWord, keywordOf, actionOf, statementForm, whenForm, formIf, classForm, nameForm, endForm, objectForm, formAs, formOf}
+use Rattle.model.specs.Form.{Action, Form, classLine, fieldLine, methodLine, statementLine, endLine, objectLine, malformed, Keyword, classWord, fieldWord, methodWord, endWord, objectWord, setWord, addWord, sendWord, replyWord, whenWord, otherWord, keywordOf, actionOf, statementForm, whenForm, formIf, classForm, nameForm, endForm, objectForm, formAs, formOf}
 
 -- ---- the keyword
 
@@ -80,6 +80,7 @@ module _ (m : ℕ) (h : m ≢ 0) (k : m < 4) where
   by-keyword endWord ws e = absurd (omega (arith, of-end ws m h e))
   by-keyword objectWord ws e = absurd (omega (arith, of-object ws m h e))
   by-keyword setWord ws e = absurd (omega (arith, of-statement none (actionOf setWord ws) m h e))
+  by-keyword addWord ws e = absurd (omega (arith, of-statement none (actionOf addWord ws) m h e))
   by-keyword sendWord ws e = absurd (omega (arith, of-statement none (actionOf sendWord ws) m h e))
   by-keyword replyWord ws e = absurd (omega (arith, of-statement none (actionOf replyWord ws) m h e))
   by-keyword whenWord ws e = absurd (omega (arith, of-when (expression ws) m h e))

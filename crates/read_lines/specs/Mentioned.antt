@@ -16,7 +16,7 @@ use Rattle.model.specs.Fault.{strange, ownMethod, methodOf, unknownIn, noAncest
 use Rattle.laws.specs.Lists.{same-sound}
 use Rattle.text_lex.specs.Scan.{isByte, before}
 use Rattle.text_lex.specs.Piece.{wordsAfter, first, others, first-piece}
-use Rattle.text_syntax.specs.Spelling.{ActionWords, sets, sends, sends-prefixed, replies, StatementWords, bare, guarded, spelled}
+use Rattle.text_syntax.specs.Spelling.{changeWord, change-no-name, change-no-send, ActionWords, assigns, sends, sends-prefixed, replies, StatementWords, bare, guarded, spelled}
 use Rattle.text_syntax.specs.Expressions.{Named, named, no-token, Taken, Walked, walked}
 use Rattle.read_lines.specs.Lower.{lower, lower-assoc, lower-zero, lowest, lowest-both, lowest-then}
 
@@ -118,9 +118,10 @@ module _ (l : Library) (below : List Line) where
 
   action-deserves : {ws : List (List ℕ)} {a : Action} → ActionWords ws a → faultFrom false ws ≡ lowest (unknownIn l below a) (noAncestor l a)
   unfolding faultFrom unknownIn noAncestor same isName
-  action-deserves (sets g ws e n q) =
+  action-deserves (assigns how g ws e n q) =
       let s = strange (lastClass l) e in
-      ap₂ (λ (t u : Bool). lower (lowest (t && not (among (lastClass l .fields) g)) false) (faultFrom u ws)) n (name-apart g n)
+      plain (changeWord how) (g ∷ ws) (change-no-name how) (change-no-send how)
+      ∙ ap₂ (λ (t u : Bool). lower (lowest (t && not (among (lastClass l .fields) g)) false) (faultFrom u ws)) n (name-apart g n)
       ∙ ap (λ (x : ℕ). lower (lowest (not (among (lastClass l .fields) g)) false) x) (alone ws e q)
       ∙ lowest-both (not (among (lastClass l .fields) g)) false s false
   action-deserves (sends target m ws e h q) = sent target (m ∷ []) ws e h q
@@ -132,7 +133,7 @@ module _ (l : Library) (below : List Line) where
   -- No statement begins with a name.
   first-word : {ws : List (List ℕ)} {a : Action} → ActionWords ws a → faultBehind ws ≡ faultFrom false ws
   unfolding isName
-  first-word (sets g ws e n q) = sym (pass (bytes "set") (g ∷ ws) refl)
+  first-word (assigns how g ws e n q) = sym (pass (changeWord how) (g ∷ ws) (change-no-name how))
   first-word (sends target m ws e h q) = sym (pass (bytes "send") (target ∷ bytes "to" ∷ bytes "self" ∷ ws) refl)
   first-word (sends-prefixed target c m ws e h q) = sym (pass (bytes "send") (target ∷ bytes "to" ∷ bytes "self" ∷ ws) refl)
   first-word (replies ws e q) = sym (pass (bytes "reply") ws refl)

@@ -11,7 +11,7 @@ use Rattle.model.specs.Text.{words}
 use Rattle.model.specs.Word.{Name, isName, isNumber, decimal}
 use Rattle.model.specs.Expression.{Expression, Parsed, parsed, unread, expression}
 use Rattle.model.specs.Form.{Action, Form, classLine, fieldLine, methodLine, statementLine, endLine, objectLine, malformed}
-use Rattle.model.specs.Form.{Keyword, classWord, fieldWord, methodWord, endWord, objectWord, setWord, sendWord, replyWord, whenWord, otherWord}
+use Rattle.model.specs.Form.{Keyword, classWord, fieldWord, methodWord, endWord, objectWord, setWord, addWord, sendWord, replyWord, whenWord, otherWord}
 use Rattle.model.specs.Form.{keywordOf, actionOf, statementForm, whenForm, formIf, classForm, nameForm, endForm, objectForm, formAs, formOf}
 use Rattle.text_lex.specs.Tests.{and-true}
 use Rattle.text_lex.specs.Scan.{isByte, before}
@@ -82,6 +82,7 @@ by-keyword methodWord ws = name-spelled methodLine (λ n. refl) ws
 by-keyword endWord ws = end-spelled ws
 by-keyword objectWord ws = object-spelled ws
 by-keyword setWord ws = statement-spelled ws none (actionOf setWord ws)
+by-keyword addWord ws = statement-spelled ws none (actionOf addWord ws)
 by-keyword sendWord ws = statement-spelled ws none (actionOf sendWord ws)
 by-keyword replyWord ws = statement-spelled ws none (actionOf replyWord ws)
 by-keyword whenWord ws = when-spelled ws (expression ws)

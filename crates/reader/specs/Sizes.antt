@@ -8,11 +8,11 @@ use lib.ListN.{length, drop, length-drop}
 use Rattle.model.specs.Text.{words}
 use Rattle.model.specs.Word.{Name, isName, isNumber}
 use Rattle.model.specs.Expression.{Expression, parsed, unread, expression, tokenOf, readLevels}
-use Rattle.model.specs.Form.{Action, Statement, statementLine, formOf}
+use Rattle.model.specs.Form.{Change, replace, increase, Action, Statement, statementLine, formOf}
 use Rattle.text_lex.specs.Scan.{isByte, before}
 use Rattle.text_lex.specs.Piece.{wordsAfter, others, span, pieces-step, span-after}
 use Rattle.text_syntax.specs.Reading.{Tail, tail-after}
-use Rattle.text_syntax.specs.Spelling.{ActionWords, sets, sends, sends-prefixed, replies, StatementWords, bare, guarded, spelled}
+use Rattle.text_syntax.specs.Spelling.{changeWord, ActionWords, assigns, sends, sends-prefixed, replies, StatementWords, bare, guarded, spelled}
 
 -- An expression's first word is not empty.
 expression-size : (ws : List (List ℕ)) (e : Expression) (rest : List (List ℕ)) → expression ws ≡ parsed e rest → 2 ≤ span ws
@@ -26,9 +26,13 @@ unfolding isName
 name-size [] n = absurd (false≢true n)
 name-size (b ∷ g) n = omega arith
 
+change-size : (how : Change) → length (changeWord how) ≡ 3
+change-size replace = refl
+change-size increase = refl
+
 action-size : {ws : List (List ℕ)} {a : Action} → ActionWords ws a → 8 ≤ span ws
 unfolding span
-action-size (sets g ws e n q) = omega (arith, name-size g n, expression-size ws e [] q)
+action-size (assigns how g ws e n q) = omega (arith, change-size how, name-size g n, expression-size ws e [] q)
 action-size (sends target m ws e h q) = omega arith
 action-size (sends-prefixed target c m ws e h q) = omega arith
 action-size (replies ws e q) = omega (arith, expression-size ws e [] q)

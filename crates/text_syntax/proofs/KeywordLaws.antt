@@ -6,7 +6,7 @@ use mathlib.Core.List.{List, [], _∷_}
 use lib.ListN.{length}
 use lib.Dec.{eqb}
 use Rattle.model.specs.Base.{bytes, any}
-use Rattle.model.specs.Form.{keywordOf, classWord, fieldWord, methodWord, endWord, objectWord, setWord, sendWord, replyWord, whenWord, otherWord}
+use Rattle.model.specs.Form.{keywordOf, classWord, fieldWord, methodWord, endWord, objectWord, setWord, addWord, sendWord, replyWord, whenWord, otherWord}
 use Rattle.model.specs.Form as model
 use Rattle.text_lex.specs.Among.{ofLength, none-of-length, among, by-length}
 
@@ -20,7 +20,7 @@ word e = e .0
 abbrev pub keywords : List Entry
 keywords =
     (bytes "class", classWord) ∷ (bytes "field", fieldWord) ∷ (bytes "method", methodWord) ∷ (bytes "end", endWord) ∷ (bytes "object", objectWord) ∷
-    (bytes "set", setWord) ∷ (bytes "send", sendWord) ∷ (bytes "reply", replyWord) ∷ (bytes "when", whenWord) ∷ []
+    (bytes "set", setWord) ∷ (bytes "add", addWord) ∷ (bytes "send", sendWord) ∷ (bytes "reply", replyWord) ∷ (bytes "when", whenWord) ∷ []
 
 abbrev pub keywordAmong : List Entry → List ℕ → model.Keyword
 keywordAmong es w = among word (λ e t k. cond t (e .1) k) otherWord es w

@@ -10,9 +10,9 @@ use Rattle.model.specs.Base.{bytes, same, every}
 use Rattle.model.specs.Text.{pieces, words}
 use Rattle.model.specs.Word.{isName, isNumber}
 use Rattle.model.specs.Expression.{Expression, Parsed, parsed, unread, expression, readLevels}
-use Rattle.model.specs.Form.{Action, Form, classLine, fieldLine, methodLine, statementLine, endLine, objectLine, malformed}
-use Rattle.model.specs.Form.{Keyword, classWord, fieldWord, methodWord, endWord, objectWord, setWord, sendWord, replyWord, whenWord, otherWord}
-use Rattle.model.specs.Form.{keywordOf, whole, given, sendTo, actionOf, statementForm, whenForm, formIf, classForm, nameForm, endForm, objectForm, formAs, formOf}
+use Rattle.model.specs.Form.{Change, Action, Form, classLine, fieldLine, methodLine, statementLine, endLine, objectLine, malformed}
+use Rattle.model.specs.Form.{Keyword, classWord, fieldWord, methodWord, endWord, objectWord, setWord, addWord, sendWord, replyWord, whenWord, otherWord}
+use Rattle.model.specs.Form.{keywordOf, whole, given, sendTo, assignAction, actionOf, statementForm, whenForm, formIf, classForm, nameForm, endForm, objectForm, formAs, formOf}
 use Rattle.text_lex.specs.Tests.{and-false}
 use Rattle.text_lex.specs.Scan.{isByte, before}
 use Rattle.text_lex.specs.Piece.{wordsAfter, first, others, isEmpty, first-piece}
@@ -68,9 +68,9 @@ unfoldable pub isObject : List (List ℕ) → Bool
 unfolding every isName isNumber
 isObject ws = isName (first ws) && isName (first (others ws)) && every isNumber (others (others ws))
 
-unfoldable pub isSet : List (List ℕ) → Bool
+unfoldable pub isAssign : List (List ℕ) → Bool
 unfolding isName readLevels
-isSet ws = isName (first ws) && isWhole (expression (others ws))
+isAssign ws = isName (first ws) && isWhole (expression (others ws))
 
 -- Whether the pieces are those of `M` or `C.M`, split at the points.
 unfoldable pub isTarget : List (List ℕ) → Bool
@@ -98,6 +98,7 @@ fits methodWord ws = isNamed ws
 fits endWord ws = isEmpty ws
 fits objectWord ws = isObject ws
 fits setWord ws = isAction (actionOf setWord ws)
+fits addWord ws = isAction (actionOf addWord ws)
 fits sendWord ws = isAction (actionOf sendWord ws)
 fits replyWord ws = isAction (actionOf replyWord ws)
 fits whenWord ws = isGuarded (expression ws)
@@ -110,6 +111,7 @@ kindBy methodWord = 2
 kindBy endWord = 4
 kindBy objectWord = 5
 kindBy setWord = 3
+kindBy addWord = 3
 kindBy sendWord = 3
 kindBy replyWord = 3
 kindBy whenWord = 3
@@ -144,10 +146,10 @@ target-action (c ∷ m ∷ []) ws =
     ∙ ap (λ (t : Bool). (isName c && t) && isWhole (expression ws)) (sym (and-yes (isName m)))
 target-action (c ∷ m ∷ n ∷ ns) ws = rw (and-false (isName m) refl, and-false (isName c) refl)
 
-pub set-action : (ws : List (List ℕ)) → isAction (actionOf setWord ws) ≡ isSet ws
-unfolding actionOf isSet isName
-set-action [] = refl
-set-action (f ∷ ws) = given-whole (isName f) _ (expression ws)
+pub assign-action : (how : Change) (ws : List (List ℕ)) → isAction (assignAction how ws) ≡ isAssign ws
+unfolding isAssign isName
+assign-action how [] = refl
+assign-action how (f ∷ ws) = given-whole (isName f) _ (expression ws)
 
 pub send-action : (ws : List (List ℕ)) → isAction (actionOf sendWord ws) ≡ isSend ws
 unfolding actionOf isSend same
@@ -211,6 +213,7 @@ kind-as methodWord ws = named-kind methodLine 2 (λ n. refl) ws
 kind-as endWord ws = end-kind ws
 kind-as objectWord ws = object-kind ws
 kind-as setWord ws = statement-kind none (actionOf setWord ws)
+kind-as addWord ws = statement-kind none (actionOf addWord ws)
 kind-as sendWord ws = statement-kind none (actionOf sendWord ws)
 kind-as replyWord ws = statement-kind none (actionOf replyWord ws)
 kind-as whenWord ws = when-kind (expression ws)

@@ -8,14 +8,31 @@ use Rattle.model.specs.Base.{bytes, same, every}
 use Rattle.model.specs.Text.{pieces}
 use Rattle.model.specs.Word.{Name, isName, isNumber, decimal}
 use Rattle.model.specs.Expression.{Expression, Parsed, parsed, unread, expression}
-use Rattle.model.specs.Form.{Action, assign, send, sendPrefixed, reply, Statement, Form, classLine, fieldLine, methodLine, statementLine, endLine, objectLine, malformed}
-use Rattle.model.specs.Form.{Keyword, classWord, fieldWord, methodWord, endWord, objectWord, setWord, sendWord, replyWord, whenWord, otherWord}
-use Rattle.model.specs.Form.{keywordOf, whole, given, sendTo, actionOf, statementForm, whenForm, formIf, classForm, nameForm, endForm, objectForm, formAs, formOf}
+use Rattle.model.specs.Form.{Change, replace, increase, Action, assign, send, sendPrefixed, reply, Statement, Form, classLine, fieldLine, methodLine, statementLine, endLine, objectLine, malformed}
+use Rattle.model.specs.Form.{Keyword, classWord, fieldWord, methodWord, endWord, objectWord, setWord, addWord, sendWord, replyWord, whenWord, otherWord}
+use Rattle.model.specs.Form.{keywordOf, whole, given, sendTo, assignAction, actionOf, statementForm, whenForm, formIf, classForm, nameForm, endForm, objectForm, formAs, formOf}
 use Rattle.laws.specs.Lists.{same-sound, both-left, both-right}
 
--- "set F E", "send M to self E", "send C.M to self E", "reply E"
+-- The keyword of a change.
+abbrev pub changeWord : Change → List ℕ
+changeWord replace = bytes "set"
+changeWord increase = bytes "add"
+
+-- It is no name and not `send`.
+pub change-no-name : (how : Change) → isName (changeWord how) ≡ false
+unfolding isName
+change-no-name replace = refl
+change-no-name increase = refl
+
+pub change-no-send : (how : Change) → same (changeWord how) (bytes "send") ≡ false
+unfolding same
+change-no-send replace = refl
+change-no-send increase = refl
+
+-- "set F E" and "add F E", "send M to self E", "send C.M to self E", "reply E"
 pub data ActionWords : List (List ℕ) → Action → Type 0 where
-  sets : (g : Name) (ws : List (List ℕ)) (e : Expression) → isName g ≡ true → expression ws ≡ parsed e [] → ActionWords (bytes "set" ∷ g ∷ ws) (assign g e)
+  assigns : (how : Change) (g : Name) (ws : List (List ℕ)) (e : Expression) → isName g ≡ true → expression ws ≡ parsed e []
+      → ActionWords (changeWord how ∷ g ∷ ws) (assign how g e)
   sends : (target : List ℕ) (m : Name) (ws : List (List ℕ)) (e : Expression) → pieces 46 target ≡ m ∷ [] → expression ws ≡ parsed e []
       → ActionWords (bytes "send" ∷ target ∷ bytes "to" ∷ bytes "self" ∷ ws) (send m e)
   sends-prefixed : (target : List ℕ) (c m : Name) (ws : List (List ℕ)) (e : Expression) → pieces 46 target ≡ c ∷ m ∷ [] → expression ws ≡ parsed e []
@@ -47,12 +64,11 @@ given-acting : (all : List (List ℕ)) (t : Bool) (a : Option Action) → (t ≡
 given-acting all true a f = f refl
 given-acting all false a f = tt
 
-set-acting : (ws : List (List ℕ)) → Acting (bytes "set" ∷ ws) (actionOf setWord ws)
-unfolding actionOf
-set-acting [] = tt
-set-acting (g ∷ ws) =
-    let all = bytes "set" ∷ g ∷ ws in
-    given-acting all (isName g) (whole (assign g) (expression ws)) (λ n. whole-acting all ws (assign g) (λ e q. sets g ws e n q))
+assign-acting : (how : Change) (ws : List (List ℕ)) → Acting (changeWord how ∷ ws) (assignAction how ws)
+assign-acting how [] = tt
+assign-acting how (g ∷ ws) =
+    let all = changeWord how ∷ g ∷ ws in
+    given-acting all (isName g) (whole (assign how g) (expression ws)) (λ n. whole-acting all ws (assign how g) (λ e q. assigns how g ws e n q))
 
 target-acting : (target : List ℕ) (ws ps : List (List ℕ)) → pieces 46 target ≡ ps
     → Acting (bytes "send" ∷ target ∷ bytes "to" ∷ bytes "self" ∷ ws) (sendTo ps ws)
@@ -94,6 +110,7 @@ Keyed w methodWord = Unit {0}
 Keyed w endWord = Unit {0}
 Keyed w objectWord = Unit {0}
 Keyed w setWord = w ≡ bytes "set"
+Keyed w addWord = w ≡ bytes "add"
 Keyed w sendWord = w ≡ bytes "send"
 Keyed w replyWord = w ≡ bytes "reply"
 Keyed w whenWord = w ≡ bytes "when"
@@ -104,7 +121,8 @@ unfolding keywordOf
 keyed w =
     choice (bytes "class") classWord _ (λ e. tt) (choice (bytes "field") fieldWord _ (λ e. tt) (choice (bytes "method") methodWord _ (λ e. tt)
     (choice (bytes "end") endWord _ (λ e. tt) (choice (bytes "object") objectWord _ (λ e. tt) (choice (bytes "set") setWord _ (λ e. e)
-    (choice (bytes "send") sendWord _ (λ e. e) (choice (bytes "reply") replyWord _ (λ e. e) (choice (bytes "when") whenWord otherWord (λ e. e) tt))))))))
+    (choice (bytes "add") addWord _ (λ e. e) (choice (bytes "send") sendWord _ (λ e. e) (choice (bytes "reply") replyWord _ (λ e. e)
+    (choice (bytes "when") whenWord otherWord (λ e. e) tt)))))))))
   where
     choice : (k : List ℕ) (x y : Keyword) → (w ≡ k → Keyed w x) → Keyed w y → Keyed w (cond (same w k) x y)
     choice k x y f h = go (same w k) refl
@@ -120,7 +138,8 @@ action-acting w ws fieldWord e = tt
 action-acting w ws methodWord e = tt
 action-acting w ws endWord e = tt
 action-acting w ws objectWord e = tt
-action-acting w ws setWord e = rw e (set-acting ws)
+action-acting w ws setWord e = rw e (assign-acting replace ws)
+action-acting w ws addWord e = rw e (assign-acting increase ws)
 action-acting w ws sendWord e = rw e (send-acting ws)
 action-acting w ws replyWord e = rw e (reply-acting ws)
 action-acting w ws whenWord e = tt
@@ -186,6 +205,7 @@ stating w ws methodWord e = name-stating (w ∷ ws) methodLine (λ n. tt) ws
 stating w ws endWord e = end-stating (w ∷ ws) ws
 stating w ws objectWord e = object-stating (w ∷ ws) ws
 stating w ws setWord e = bare-stating (w ∷ ws) (actionOf setWord ws) (action-acting w ws setWord e)
+stating w ws addWord e = bare-stating (w ∷ ws) (actionOf addWord ws) (action-acting w ws addWord e)
 stating w ws sendWord e = bare-stating (w ∷ ws) (actionOf sendWord ws) (action-acting w ws sendWord e)
 stating w ws replyWord e = bare-stating (w ∷ ws) (actionOf replyWord ws) (action-acting w ws replyWord e)
 stating w ws whenWord e = rw e (when-stating ws)

@@ -13,7 +13,7 @@ ghost use Rattle.model.specs.Form.{actionOf, formOf};
 ghost use Rattle.text_lex.specs.Piece.{wordsAfter};
 ghost use Rattle.text_syntax.specs.Keywords.{saidKeyword};
 ghost use Rattle.text_syntax.specs.Kinds.{kindOf, said, kindBy, fits, isSort, isAction, isWhole};
-ghost use Rattle.text_syntax.specs.Kinds.{isNamed, areNames, isClass, isObject, isSet, isTarget, isSend, isGuarded};
+ghost use Rattle.text_syntax.specs.Kinds.{isNamed, areNames, isClass, isObject, isAssign, isTarget, isSend, isGuarded};
 
 const LEVELS: usize = 9;
 
@@ -107,9 +107,9 @@ fn is_whole(line: &[u8], at: usize) -> bool
     }
 }
 
-// Whether the words of a `set` follow `at`: a field and an expression.
-fn is_set(line: &[u8], at: usize) -> bool
-    ensures { λ r. ⌜ r ≡ isSet (wordsAfter (drop at (now (line .entry)))) ⌝ }
+// Whether the words of a `set` or an `add` follow `at`: a field and an expression.
+fn is_assign(line: &[u8], at: usize) -> bool
+    ensures { λ r. ⌜ r ≡ isAssign (wordsAfter (drop at (now (line .entry)))) ⌝ }
 {
     let field = text_lex::word_end_after(line, at);
     text_lex::is_name(text_lex::word_after(line, at)) & is_whole(line, field)
@@ -143,7 +143,8 @@ pub fn is_action(keyword: Keyword, line: &[u8], at: usize) -> bool
     ensures { λ r. ⌜ r ≡ isAction (actionOf (saidKeyword keyword) (wordsAfter (drop at (now (line .entry))))) ⌝ }
 {
     match keyword {
-        Keyword::Set => is_set(line, at),
+        Keyword::Set => is_assign(line, at),
+        Keyword::Add => is_assign(line, at),
         Keyword::Send => is_send(line, at),
         Keyword::Reply => is_whole(line, at),
         Keyword::Class => false,
@@ -181,6 +182,7 @@ fn fits(keyword: Keyword, line: &[u8], at: usize) -> bool
         Keyword::End => line.len() <= at,
         Keyword::Object => is_object(line, at),
         Keyword::Set => is_action(Keyword::Set, line, at),
+        Keyword::Add => is_action(Keyword::Add, line, at),
         Keyword::Send => is_action(Keyword::Send, line, at),
         Keyword::Reply => is_action(Keyword::Reply, line, at),
         Keyword::When => is_guarded(line, at),
@@ -199,6 +201,7 @@ fn kind_by(keyword: Keyword) -> Kind
         Keyword::End => Kind::End,
         Keyword::Object => Kind::Object,
         Keyword::Set => Kind::Statement,
+        Keyword::Add => Kind::Statement,
         Keyword::Send => Kind::Statement,
         Keyword::Reply => Kind::Statement,
         Keyword::When => Kind::Statement,

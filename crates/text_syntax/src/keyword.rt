@@ -4,7 +4,7 @@ ghost use mathlib.Core.Bool.{cond};
 ghost use Rattle.model.specs.Form.{keywordOf};
 ghost use Rattle.text_syntax.specs.Keywords.{saidKeyword};
 
-// The nine words that begin a line, and Other for any other word.
+// The ten words that begin a line, and Other for any other word.
 pub enum Keyword {
     Class,
     Field,
@@ -12,6 +12,7 @@ pub enum Keyword {
     End,
     Object,
     Set,
+    Add,
     Send,
     Reply,
     When,
@@ -31,7 +32,8 @@ pub fn keyword_of(word: &[u8]) -> Keyword
 {
     match word.len() {
         3 => {
-            let keyword = choose(text_lex::same(word, b"set"), Keyword::Set, Keyword::Other);
+            let keyword = choose(text_lex::same(word, b"add"), Keyword::Add, Keyword::Other);
+            let keyword = choose(text_lex::same(word, b"set"), Keyword::Set, keyword);
             choose(text_lex::same(word, b"end"), Keyword::End, keyword)
         }
         4 => {

@@ -50,7 +50,7 @@ module _ (p : Program) (m : Message) (o : ℕ) (n : ℕ) where
 
   perform-alike : (stack : List Activation) (a : Activation) (below : List Activation) (fields : Name → ℕ) (x : Action)
       → Alike stack (λ os sum. perform p (at stack os sum) o a below fields x)
-  perform-alike stack a below fields (assign f e) = (stays (a ∷ below) (storeAt (placeOf p o f) (worth a fields e)), λ os sum. refl)
+  perform-alike stack a below fields (assign how f e) = (stays (a ∷ below) (storeAt how (placeOf p o f) (worth a fields e)), λ os sum. refl)
   perform-alike stack a below fields (send k e) = called-alike stack a below (bodyOf (p .library) (p .resolve) (classOf p o) k) (worth a fields e)
   perform-alike stack a below fields (sendPrefixed c k e) =
       called-alike stack a below (bodyOf (p .library) (p .resolve) (classNumber (p .library) c) k) (worth a fields e)

@@ -76,6 +76,19 @@ mixed = text
     "class c" ∷ "method g" ∷ "end" ∷
     "object o1 a 5" ∷ "object o2 b 7" ∷ "object o3 a 4294967295" ∷ [])
 
+-- A field that is added to, read, set, added to itself, added to under a guard, and added to and read by callees.
+unfoldable pub tally : List ℕ
+unfolding text
+tally = text
+    ("class a" ∷ "field x" ∷ "field y" ∷
+    "method count" ∷ "add x arg" ∷ "end" ∷
+    "method look" ∷ "reply x" ∷ "end" ∷
+    "method fix" ∷ "set x arg" ∷ "end" ∷
+    "method twice" ∷ "add x x" ∷ "end" ∷
+    "method maybe" ∷ "when y add x 0" ∷ "end" ∷
+    "method both" ∷ "send count to self arg" ∷ "send look to self 0" ∷ "reply got" ∷ "end" ∷
+    "object o a 4294967295" ∷ [])
+
 -- A method of 1,024 steps on an object, and one of one more step.
 unfoldable pub long : List ℕ
 unfolding text

@@ -22,7 +22,7 @@ use Rattle.model.specs.Rehearsal.{rehearsed}
 use Rattle.model.specs.Service.{callNumber, callDetail}
 use Rattle.model.specs.Machine.{object, class, domain, to, Call, send, step, commit, abort, Answer, done, going, answer, refuse, held, stopped, startAnswer, played}
 use Rattle.model.specs.Course.{Compared, course}
-use Rattle.theory.specs.ExampleTexts.{text, lanes, figure1, endless, diamond, circle, prefixed, mixed, long}
+use Rattle.theory.specs.ExampleTexts.{text, lanes, figure1, endless, diamond, circle, prefixed, mixed, tally, long}
 
 -- An input and the expected result.
 pub data Row : Type 0 where
@@ -89,7 +89,7 @@ passes (prints t s) = same (printed t) s
 passes (direct t c m s) =
     let l = library t in
     same (letters (joinedVector l (asRecorded l) c (record { class = c; method = bytes m } ∷ []))) (bytes s)
-passes (pairs t n ps) = eqb (length (image t)) n && same (take 24 (image t)) (flatMap u32Bytes ps)
+passes (pairs t n ps) = eqb (length (image t)) n && same (take 32 (image t)) (flatMap u32Bytes ps)
 passes (finds t k s) = same (statementPart t k) (bytes s)
 passes (misses t k n) = eqb (numberOf (statementAnswer t k)) n && same (statementPart t k) []
 passes (compilesInto t k n) = eqb (numberOf (compileAnswer t k)) n
@@ -113,7 +113,7 @@ passes (rehearses t cs s) = same (rehearsed t cs) s
 abbrev starred : List Row
 starred =
     prints lanes (text ("run shot WN ny" ∷ "run plot NR yy" ∷ "lane shot WNW nyn" ∷ "lane plot NRN yyy" ∷ "lane tune NNW nyn" ∷ [])) ∷
-    pairs lanes 124 (24 ∷ 40 ∷ 64 ∷ 40 ∷ 104 ∷ 20 ∷ []) ∷
+    pairs lanes 152 (32 ∷ 40 ∷ 72 ∷ 40 ∷ 112 ∷ 20 ∷ 132 ∷ 20 ∷ []) ∷
     prints figure1
     (text
     ("c1 m1 WRR nny" ∷ "c1 m2 WRN nny" ∷ "c1 m3 NRR yyy" ∷ "c2 m1 WRRWRN nnyy" ∷ "c2 m2 WRNWRN nnyy" ∷ "c2 m3 NRRNNN yyyy" ∷
@@ -124,7 +124,7 @@ starred =
     direct figure1 1 "m3" "NRRNNN" ∷
     direct figure1 1 "m4" "NNNNRW" ∷
     reads [] 0 0 ∷
-    pairs [] 24 (24 ∷ 0 ∷ 24 ∷ 0 ∷ 24 ∷ 0 ∷ []) ∷
+    pairs [] 32 (32 ∷ 0 ∷ 32 ∷ 0 ∷ 32 ∷ 0 ∷ 32 ∷ 0 ∷ []) ∷
     values "- 0 1" 4294967295 ∷
     values "* 65536 65536" 0 ∷
     values "< 0 4294967295" 0 ∷
@@ -145,8 +145,8 @@ abbrev lent : List Row
 lent =
     finds lanes 3 "set focus arg" ∷
     misses lanes 5 23 ∷
-    compilesInto lanes 123 21 ∷
-    leaves [] (replicate 25 9) (image [] ++ (9 ∷ [])) ∷
+    compilesInto lanes 151 21 ∷
+    leaves [] (replicate 33 9) (image [] ++ (9 ∷ [])) ∷
     printsInto (bytes "class") 12 21 ∷
     leavesPrinted (bytes "class") (replicate 13 9) (text ("refused 12 1" ∷ [])) ∷
     counts lanes 2 22 ∷
@@ -173,6 +173,32 @@ machine =
     plays mixed
     (send 5 (to (object 1) 0 9) ∷ step 5 ∷ step 5 ∷ send 2 (to (domain 0) 0 1) ∷ commit 2 ∷ send 2 (to (class 0) 0 1) ∷ step 2 ∷ abort 2 ∷ abort 5 ∷ [])
     (done ∷ going ∷ going ∷ held 5 ∷ refuse 32 ∷ done ∷ going ∷ done ∷ done ∷ []) (5 ∷ 7 ∷ 0 ∷ 4294967295 ∷ []) ∷
+    []
+
+-- Additions. In `tally` the methods are count 0, look 1, fix 2, twice 3, maybe 4, both 5. They run side by side and are taken back one
+-- by one; a set notes the value right before it less what was added until then, and what is added after it is lost with it; an
+-- addition that is skipped is none.
+abbrev additions : List Row
+additions =
+    prints tally (text ("a count AN ynnnyn" ∷ "a look RN nynnnn" ∷ "a fix WN nnnnnn" ∷ "a twice WN nnnnnn" ∷ "a maybe AR ynnnyn" ∷ "a both WN nnnnnn" ∷ [])) ∷
+    reads (text ("class a" ∷ "field x" ∷ "method m" ∷ "add y 1" ∷ "end" ∷ [])) 14 4 ∷
+    reads (text ("class a" ∷ "field x" ∷ "method m" ∷ "add x" ∷ "end" ∷ [])) 12 4 ∷
+    reads (text ("class a" ∷ "field x" ∷ "method m" ∷ "add x 1 1" ∷ "end" ∷ [])) 12 4 ∷
+    plays tally
+    (send 0 (to (object 0) 0 3) ∷ send 1 (to (object 0) 0 5) ∷ send 2 (to (object 0) 1 0) ∷ send 3 (to (object 0) 3 0) ∷ send 4 (to (object 0) 4 0) ∷
+    step 0 ∷ step 1 ∷ step 0 ∷ step 1 ∷ abort 0 ∷ [])
+    (done ∷ done ∷ held 0 ∷ held 0 ∷ done ∷ going ∷ going ∷ answer 0 ∷ answer 0 ∷ done ∷ []) (4 ∷ 0 ∷ []) ∷
+    plays tally
+    (send 0 (to (object 0) 0 3) ∷ send 1 (to (object 0) 0 5) ∷ step 0 ∷ step 0 ∷ step 1 ∷ step 1 ∷ commit 1 ∷ send 0 (to (object 0) 2 9) ∷ step 0 ∷ step 0 ∷
+    send 0 (to (object 0) 0 6) ∷ step 0 ∷ step 0 ∷ [])
+    (done ∷ done ∷ going ∷ answer 0 ∷ going ∷ answer 0 ∷ done ∷ done ∷ going ∷ answer 0 ∷ done ∷ going ∷ answer 0 ∷ []) (15 ∷ 0 ∷ []) ∷
+    plays tally
+    (send 0 (to (object 0) 0 3) ∷ send 1 (to (object 0) 0 5) ∷ step 0 ∷ step 0 ∷ step 1 ∷ step 1 ∷ commit 1 ∷ send 0 (to (object 0) 2 9) ∷ step 0 ∷ step 0 ∷
+    send 0 (to (object 0) 0 6) ∷ step 0 ∷ step 0 ∷ abort 0 ∷ [])
+    (done ∷ done ∷ going ∷ answer 0 ∷ going ∷ answer 0 ∷ done ∷ done ∷ going ∷ answer 0 ∷ done ∷ going ∷ answer 0 ∷ done ∷ []) (4 ∷ 0 ∷ []) ∷
+    agrees tally
+    (send 0 (to (object 0) 0 3) ∷ send 1 (to (class 0) 0 5) ∷ send 2 (to (domain 0) 4 0) ∷ step 1 ∷ step 0 ∷ step 2 ∷ step 2 ∷ step 0 ∷ step 1 ∷ abort 2 ∷
+    commit 1 ∷ send 0 (to (object 0) 5 1) ∷ replicate 8 (step 0) ++ (commit 0 ∷ [])) ∷
     []
 
 -- A message of 1,024 steps, and one of one more step.
@@ -235,6 +261,10 @@ machine-pass : Passing machine
 unfolding every passes mixed
 machine-pass = refl
 
+additions-pass : Passing additions
+unfolding every passes tally text
+additions-pass = refl
+
 stops-pass : Passing stops
 unfolding every passes long
 stops-pass = refl
@@ -249,9 +279,10 @@ rehearsals-pass = refl
 
 -- The table.
 abbrev pub rows : List Row
-rows = starred ++ (lent ++ (vectors ++ (machine ++ (stops ++ (courses ++ rehearsals)))))
+rows = starred ++ (lent ++ (vectors ++ (machine ++ (additions ++ (stops ++ (courses ++ rehearsals))))))
 
 -- Every row passes.
 pub every-row-passes : every passes rows ≡ true
 every-row-passes =
-    both starred _ starred-pass (both lent _ lent-pass (both vectors _ vectors-pass (both machine _ machine-pass (both stops _ stops-pass (both courses _ courses-pass rehearsals-pass)))))
+    both starred _ starred-pass (both lent _ lent-pass (both vectors _ vectors-pass (both machine _ machine-pass
+    (both additions _ additions-pass (both stops _ stops-pass (both courses _ courses-pass rehearsals-pass))))))

@@ -1,33 +1,49 @@
 -- Free messages do not interfere: their effects commute, and neither sees the other's.
-use Prim.Native.Nat.{ℕ, _+_, _<_}
+use Prim.Native.Nat.{ℕ, zero, suc, _+_, _<_}
 use native.Mathlib.Omega.{arith}
-use native.Mathlib.Decide.{decLt, ℕ-discrete}
-use mathlib.Core.Path.{_≡_, refl, sym, subst, subst₂, _∙_}
+use mathlib.Core.Path.{_≡_, refl, sym, ap, subst, subst₂, _∙_}
 use mathlib.Core.Logic.{_≢_}
 use mathlib.Core.Bool.{true, true≢false}
-use mathlib.Core.List.{List}
-use lib.ListN.{length, getD, set, length-set, List·getD-eq-default}
-use lib.Seq.{getD-set-same, getD-set-other, set-comm}
+use mathlib.Core.List.{List, [], _∷_}
+use lib.ListN.{length, getD, set, length-set}
+use lib.Seq.{getD-set-other}
+use Rattle.model.specs.Form.{Change, replace, increase}
 use Rattle.model.specs.Mode.{depends, changes}
-use Rattle.model.specs.Vector.{Program}
-use Rattle.model.specs.Message.{Message, sizeOf, baseOf, Effect, idle, store, act}
-use Rattle.laws.specs.Modes.{changes-depends, clash-sym, depends-clashes}
+use Rattle.model.specs.Vector.{Program, modeOf}
+use Rattle.model.specs.Message.{Message, sizeOf, baseOf, changed, Effect, idle, store, act}
+use Rattle.laws.specs.Sums.{additions-swap}
+use Rattle.laws.specs.Modes.{clash-sym, depends-clashes}
 use Rattle.theory.specs.Places.{one-object, one-field}
-use Rattle.theory.specs.Footprint.{Visits, modeAt, Sets, May, Agree, Free}
+use Rattle.theory.specs.Footprint.{Visits, modeAt, Changes, May, Agree, Free}
 
--- Lists of one length that agree at a place still do after the same value is set in both.
-set-alike : (fields others : List ℕ) (k v i : ℕ) → length fields ≡ length others → getD fields i 0 ≡ getD others i 0
-    → getD (set fields k v) i 0 ≡ getD (set others k v) i 0
-set-alike fields others k v i long e = go (ℕ-discrete i k) (decLt i (length fields))
-  where
-    go : Dec (i ≡ k) → Dec (i < length fields) → getD (set fields k v) i 0 ≡ getD (set others k v) i 0
-    go (no ne) d = getD-set-other fields k i v 0 ne ∙ e ∙ sym (getD-set-other others k i v 0 ne)
-    go (yes q) (yes w) = subst (λ x. getD (set fields x v) i 0 ≡ getD (set others x v) i 0) q
-        (getD-set-same fields i v 0 w ∙ sym (getD-set-same others i v 0 (omega arith)))
-    go (yes q) (no w) =
-        let a = length-set fields k v in
-        let b = length-set others k v in
-        List·getD-eq-default (set fields k v) 0 (omega arith) ∙ sym (List·getD-eq-default (set others k v) 0 (omega arith))
+-- ---- one value changed by a function of it
+
+abbrev pub alter : List ℕ → ℕ → (ℕ → ℕ) → List ℕ
+alter fields k f = set fields k (f (getD fields k 0))
+
+-- Lists of one length that agree at a place still do after the same change of both.
+alter-alike : (fields others : List ℕ) (k : ℕ) (f : ℕ → ℕ) (i : ℕ) → length fields ≡ length others → getD fields i 0 ≡ getD others i 0
+    → getD (alter fields k f) i 0 ≡ getD (alter others k f) i 0
+alter-alike [] [] k f i long e = refl
+alter-alike [] (y ∷ ys) k f i long e = absurd (omega arith)
+alter-alike (x ∷ xs) [] k f i long e = absurd (omega arith)
+alter-alike (x ∷ xs) (y ∷ ys) zero f zero long e = ap f e
+alter-alike (x ∷ xs) (y ∷ ys) zero f (suc i) long e = e
+alter-alike (x ∷ xs) (y ∷ ys) (suc k) f zero long e = e
+alter-alike (x ∷ xs) (y ∷ ys) (suc k) f (suc i) long e = alter-alike xs ys k f i (omega arith) e
+
+-- Two changes commute, at one place where the functions do.
+alter-swap : (fields : List ℕ) (j k : ℕ) (f g : ℕ → ℕ) → (j ≡ k → (x : ℕ) → f (g x) ≡ g (f x)) → alter (alter fields k g) j f ≡ alter (alter fields j f) k g
+alter-swap [] j k f g h = refl
+alter-swap (x ∷ xs) zero zero f g h = ap {B = List ℕ} (λ y. y ∷ xs) (h refl x)
+alter-swap (x ∷ xs) zero (suc k) f g h = refl
+alter-swap (x ∷ xs) (suc j) zero f g h = refl
+alter-swap (x ∷ xs) (suc j) (suc k) f g h = ap {B = List ℕ} (λ ys. x ∷ ys) (alter-swap xs j k f g (λ e. h (ap suc e)))
+
+-- A statement that changes a field has a mode that does.
+mode-changes : (how : Change) → changes (modeOf how) ≡ true
+mode-changes replace = refl
+mode-changes increase = refl
 
 module _ (p : Program) (m : Message) where
   -- Agreement wherever the message may read is an equivalence.
@@ -43,9 +59,9 @@ module _ (p : Program) (m : Message) where
   -- The same effect on both preserves agreement.
   pub agree-act : (e : Effect) (fields others : List ℕ) → Agree p m fields others → Agree p m (act e fields) (act e others)
   agree-act idle fields others x = x
-  agree-act (store k v) fields others x = record {
-    long = length-set fields k v ∙ x .long ∙ sym (length-set others k v);
-    alike = λ o j a h d. set-alike fields others k v (baseOf p o + j) (x .long) (x .alike o j a h d);
+  agree-act (store how k v) fields others x = record {
+    long = length-set fields k (changed how (getD fields k 0) v) ∙ x .long ∙ sym (length-set others k (changed how (getD others k 0) v));
+    alike = λ o j a h d. alter-alike fields others k (λ y. changed how y v) (baseOf p o + j) (x .long) (x .alike o j a h d);
   }
 
 module _ (p : Program) (m n : Message) where
@@ -53,11 +69,11 @@ module _ (p : Program) (m n : Message) where
   pub free-sym : Free p m n → Free p n m
   free-sym f = record { apart = λ o k a b h. clash-sym (modeAt p n o k) (modeAt p m o k) ∙ f .apart o k b a h }
 
-  -- Where one message may read, the other does not set.
-  free-elsewhere : Free p m n → (place o k : ℕ) → Sets p n place → Visits p m o → k < sizeOf p o → depends (modeAt p m o k) ≡ true
+  -- Where one message may read, the other changes nothing.
+  free-elsewhere : Free p m n → (how : Change) (place o k : ℕ) → Changes p n how place → Visits p m o → k < sizeOf p o → depends (modeAt p m o k) ≡ true
       → baseOf p o + k ≡ place → ⊥
-  free-elsewhere f place o k s visits h d e =
-      true≢false (sym (depends-clashes (modeAt p m o k) (modeAt p n o k) d changed) ∙ f .apart o k visits there h)
+  free-elsewhere f how place o k s visits h d e =
+      true≢false (sym (depends-clashes (modeAt p m o k) (modeAt p n o k) d there-changed) ∙ f .apart o k visits there h)
     where
       same-object : o ≡ s .on
       same-object = one-object p o (s .on) k (s .at) h (s .inside) (e ∙ s .there)
@@ -68,24 +84,34 @@ module _ (p : Program) (m n : Message) where
       there : Visits p n o
       there = subst (Visits p n) (sym same-object) (s .visits)
 
-      changed : changes (modeAt p n o k) ≡ true
-      changed = subst₂ (λ x y. changes (modeAt p n x y) ≡ true) (sym same-object) (sym same-field) (s .changing)
+      there-changed : changes (modeAt p n o k) ≡ true
+      there-changed = subst₂ (λ x y. changes (modeAt p n x y) ≡ true) (sym same-object) (sym same-field) (s .allowed .change (mode-changes how))
 
-  -- The two set different places.
-  pub free-apart : Free p m n → (j k : ℕ) → Sets p m j → Sets p n k → j ≢ k
-  free-apart f j k s t e =
-      free-elsewhere f k (s .on) (s .at) t (s .visits) (s .inside) (changes-depends (modeAt p m (s .on) (s .at)) (s .changing)) (sym (s .there) ∙ e)
+  -- Where one sets, the other changes nothing.
+  pub free-apart : Free p m n → (how : Change) (j k : ℕ) → Changes p m replace j → Changes p n how k → j ≢ k
+  free-apart f how j k s t e = free-elsewhere f how k (s .on) (s .at) t (s .visits) (s .inside) (s .allowed .depend refl) (sym (s .there) ∙ e)
+
+module _ (p : Program) (m n : Message) where
+  -- At one place both only add.
+  pub both-add : Free p m n → (how how′ : Change) (j k : ℕ) → Changes p m how j → Changes p n how′ k → j ≡ k → (how ≡ increase) × (how′ ≡ increase)
+  both-add f replace how′ j k x y e = absurd (free-apart p m n f how′ j k x y e)
+  both-add f increase replace j k x y e = absurd (free-apart p n m (free-sym p m n f) increase k j y x (sym e))
+  both-add f increase increase j k x y e = (refl, refl)
 
   -- Their effects commute.
   pub free-commute : (d e : Effect) (fields : List ℕ) → Free p m n → May p m d → May p n e → act d (act e fields) ≡ act e (act d fields)
   free-commute idle e fields f x y = refl
-  free-commute (store j v) idle fields f x y = refl
-  free-commute (store j v) (store k w) fields f x y = set-comm fields k j w v (λ e. free-apart f j k x y (sym e))
+  free-commute (store how j v) idle fields f x y = refl
+  free-commute (store how j v) (store how′ k w) fields f x y =
+      alter-swap fields j k (λ z. changed how z v) (λ z. changed how′ z w) (λ e z. swap z (both-add f how how′ j k x y e))
+    where
+      swap : (z : ℕ) → (how ≡ increase) × (how′ ≡ increase) → changed how (changed how′ z w) v ≡ changed how′ (changed how z v) w
+      swap z (a, b) = rw (a, b) (additions-swap z w v)
 
   -- Neither sees the other's effect.
   pub free-agree : (e : Effect) (fields : List ℕ) → Free p m n → May p n e → Agree p m fields (act e fields)
   free-agree idle fields f y = agree-refl p m fields
-  free-agree (store k v) fields f y = record {
-    long = sym (length-set fields k v);
-    alike = λ o j a h d. sym (getD-set-other fields k (baseOf p o + j) v 0 (free-elsewhere f k o j y a h d));
+  free-agree (store how k v) fields f y = record {
+    long = sym (length-set fields k (changed how (getD fields k 0) v));
+    alike = λ o j a h d. sym (getD-set-other fields k (baseOf p o + j) (changed how (getD fields k 0) v) 0 (free-elsewhere p m n f how k o j y a h d));
   }

@@ -46,7 +46,7 @@ pub record NamedRun (p : Program) (r : Run) : Type 0 where
 
 -- The parts of a known action.
 abbrev pub KnownAction : Library → Class → Action → Type 0
-KnownAction l k (assign f e) = (among (k .fields) f ≡ true) × (strange k e ≡ false)
+KnownAction l k (assign how f e) = (among (k .fields) f ≡ true) × (strange k e ≡ false)
 KnownAction l k (send m e) = (among (k .methods) m ≡ true) × (strange k e ≡ false)
 KnownAction l k (sendPrefixed c m e) =
     (isClass l c ≡ true) × (k .ancestors (classNumber l c) ≡ true) × (among (className l c .methods) m ≡ true) × (strange k e ≡ false)
@@ -54,7 +54,7 @@ KnownAction l k (reply e) = strange k e ≡ false
 
 module _ (l : Library) (k : Class) where
   action-known : (x : Action) → namedAction l k x ≡ true → KnownAction l k x
-  action-known (assign f e) h =
+  action-known (assign how f e) h =
       let t = among (k .fields) f in
       (both-left t (not (strange k e)) h, not-true (strange k e) (both-right t (not (strange k e)) h))
   action-known (send m e) h =
@@ -191,7 +191,7 @@ module _ (p : Program) (names : Names (p .library)) where
 
       perform-named : (a : Activation) (below : List Activation) (fields : Name → ℕ) (x : Action) → KnownAction l (classOn p o) x → Rests (a ∷ below)
           → Named p (perform p r o a below fields x)
-      perform-named a below fields (assign f e) known rests = onward-named (a ∷ below) (storeAt (placeOf p o f) (worth a fields e)) rests
+      perform-named a below fields (assign how f e) known rests = onward-named (a ∷ below) (storeAt how (placeOf p o f) (worth a fields e)) rests
       perform-named a below fields (send m e) known rests =
           called-named a below (bodyOf l (p .resolve) (classOf p o) m) (worth a fields e) (body-named l names (p .resolve) rule (classOf p o) m) rests
       perform-named a below fields (sendPrefixed d m e) known rests =

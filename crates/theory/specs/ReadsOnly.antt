@@ -10,8 +10,8 @@ use Rattle.model.specs.Word.{Name}
 use Rattle.model.specs.Expression.{Expression, number, field, argument, got, apply, operate, valueOf}
 use Rattle.model.specs.Form.{Action, assign, send, sendPrefixed, reply, Statement}
 use Rattle.model.specs.Library.{classNumber, bodyOf}
-use Rattle.model.specs.Mode.{Write, depends}
-use Rattle.model.specs.Vector.{Program, inExpression, inAction, inGuard, inStatement, mention}
+use Rattle.model.specs.Mode.{depends}
+use Rattle.model.specs.Vector.{Program, inExpression, inAction, inGuard, inStatement, mention, modeOf}
 use Rattle.model.specs.Message.{Message, classOf, placeOf, valueAt, look, idle, storeAt, Activation, Run, onward, withRest, replied, holds, called, perform, guarded, inBody, onObject, limited, turn}
 use Rattle.laws.specs.Lists.{same-refl}
 use Rattle.laws.specs.Modes.{le-left, le-right}
@@ -43,9 +43,9 @@ module _ (p : Program) where
   perform-local : (r : Run) (o : ℕ) (a : Activation) (below : List Activation) (look₁ look₂ : Name → ℕ) (x : Action)
       → ((f : Name) → depends (inAction f x) ≡ true → look₁ f ≡ look₂ f) → perform p r o a below look₁ x ≡ perform p r o a below look₂ x
   unfolding inAction
-  perform-local r o a below look₁ look₂ (assign f e) h =
-      ap (λ v. onward r (a ∷ below) (storeAt (placeOf p o f) v))
-      (value-local look₁ look₂ (a .arg) (a .got) e (λ g d. h g (le-right (mention Write g f) (inExpression g e) .depend d)))
+  perform-local r o a below look₁ look₂ (assign how f e) h =
+      ap (λ v. onward r (a ∷ below) (storeAt how (placeOf p o f) v))
+      (value-local look₁ look₂ (a .arg) (a .got) e (λ g d. h g (le-right (mention (modeOf how) g f) (inExpression g e) .depend d)))
   perform-local r o a below look₁ look₂ (send m e) h =
       ap (called r a below (bodyOf (p .library) (p .resolve) (classOf p o) m)) (value-local look₁ look₂ (a .arg) (a .got) e h)
   perform-local r o a below look₁ look₂ (sendPrefixed c m e) h =

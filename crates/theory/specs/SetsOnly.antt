@@ -1,4 +1,4 @@
--- Vectors are sound, second half: a message sets only fields that its vector changes, and each step leaves a run of the message.
+-- Vectors are sound, second half: a message changes a field only as its vector allows, and each step leaves a run of the message.
 use Prim.Native.Nat.{ℕ, _<_}
 use mathlib.Core.Path.{_≡_, refl, sym, subst}
 use mathlib.Core.Bool.{Bool, true, false, cond}
@@ -8,12 +8,12 @@ use lib.Dec.{leb, ltb}
 use Rattle.model.specs.Word.{Name}
 use Rattle.model.specs.Form.{Action, assign, send, sendPrefixed, reply, Statement}
 use Rattle.model.specs.Library.{classNumber, bodyOf}
-use Rattle.model.specs.Mode.{Write}
+use Rattle.model.specs.Mode.{Null}
 use Rattle.model.specs.Graph.{Node, callee}
-use Rattle.model.specs.Vector.{Program, inExpression, inAction, inGuard, inStatement, mention}
+use Rattle.model.specs.Vector.{Program, inExpression, inAction, inGuard, inStatement, mention, modeOf}
 use Rattle.model.specs.Message.{Message, classOf, sizeOf, placeOf, look, Effect, idle, storeAt, Activation, Run, opened, visit, Outcome, goes, ends, stops, onward, withRest, withGot, replied, worth, holds, called, perform, guarded, plusReply, objectEnds, bodyEnds, inBody, onObject, limited, turn}
 use Rattle.laws.specs.Lists.{same-refl}
-use Rattle.laws.specs.Modes.{Le, le-left, le-right, le-trans}
+use Rattle.laws.specs.Modes.{Le, le-refl, le-left, le-right, le-trans}
 use Rattle.theory.specs.VectorLaws.{bodyAt, Compiled}
 use Rattle.theory.specs.Places.{fieldPlace, by-place}
 use Rattle.theory.specs.Footprint.{Visits, modeAt, May}
@@ -62,16 +62,17 @@ module _ (p : Program) (right : Compiled p) (m : Message) where
         → ((f : Name) → fieldPlace p o f < sizeOf p o → Le (inAction f x) (modeAt p m o (fieldPlace p o f)))
         → Fine p m (perform p r o a below fields x)
     unfolding callee inAction
-    perform-fine a below fields (assign f e) c behind within =
-        onward-fine (a ∷ below) (storeAt (placeOf p o f) (worth a fields e)) c
-        (by-place p (λ y. May p m (storeAt y (worth a fields e))) o f tt
+    perform-fine a below fields (assign how f e) c behind within =
+        onward-fine (a ∷ below) (storeAt how (placeOf p o f) (worth a fields e)) c
+        (by-place p (λ y. May p m (storeAt how y (worth a fields e))) o f tt
         (λ h. record {
           on = o;
           at = fieldPlace p o f;
           visits = visits-now;
           inside = h;
           there = refl;
-          changing = within f h .change (le-left (mention Write f f) (inExpression f e) .change (rw same-refl));
+          allowed = le-trans (subst (λ b. Le (modeOf how) (cond b (modeOf how) Null)) (sym (same-refl f)) (le-refl (modeOf how)))
+              (le-trans (le-left (mention (modeOf how) f f) (inExpression f e)) (within f h));
         }))
     perform-fine a below fields (send n e) c behind within =
         called-fine a below (bodyOf (p .library) (p .resolve) (classOf p o) n) (worth a fields e) c (behind _ (List·Memᴰ·head refl))

@@ -1,5 +1,6 @@
--- Vectors are sound (01, "Vectors and commuting"): at every moment of a message's run, the next step reads only fields that are
--- Read or Write, and sets only fields that are Write, in the transitive vector of its method in its object's class.
+-- Vectors are sound (01, "Vectors and commuting"): at every moment of a message's run, the next step reads only fields that are Read
+-- or Write, sets only fields that are Write, and adds only to fields that are Add or Write, in the transitive vector of its method in
+-- its object's class.
 use Prim.Native.Nat.{ℕ}
 use mathlib.Core.Path.{_≡_}
 use mathlib.Core.List.{List}
@@ -13,7 +14,7 @@ use Rattle.theory.specs.Coverage.{Of, of-begun}
 use Rattle.theory.specs.ReadsOnly.{turn-local}
 use Rattle.theory.specs.SetsOnly.{Fine, turn-fine, of-turn}
 
--- What the next step reads: the outcome is the same for any fields that agree wherever the message may read. What it sets: the
+-- What the next step reads: the outcome is the same for any fields that agree wherever the message may read. What it changes: the
 -- effect is one that the message may have.
 pub record Sound (p : Program) (m : Message) (r : Run) (fields : List ℕ) : Type 0 where
   pub reads-only : (others : List ℕ) → Agree p m fields others → turn p r fields ≡ turn p r others

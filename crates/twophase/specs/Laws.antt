@@ -26,7 +26,7 @@ module _ (𝓢 : Service) where
     pub Agree : Message → Fields → Fields → Type 0
     -- the messages do not clash
     pub Free : Message → Message → Type 0
-    -- the notes put back nothing that the effect sets
+    -- putting the notes back and the effect do not meet
     pub Aside : Undo → Effect → Type 0
     -- agreement
     pub agree-refl : (m : Message) (F : Fields) → Agree m F F

@@ -46,7 +46,7 @@ module _ (text ws : List ℕ) (c : ℕ) where
         let body = bodyOfNode text ws x in
         says-same fields (λ f. inBody f body) (markedMode ms x) v (λ f. sym (ap (λ (t : Bool). cond t (inBody f body) Null) (lt-ltb 0 (getD ms x 0) h))) s
 
-    pub unmarked-is : getD ms x 0 ≤ 0 → Says fields (markedMode ms x) (record { uses = 0; writes = 0 })
+    pub unmarked-is : getD ms x 0 ≤ 0 → Says fields (markedMode ms x) (record { depends = 0; changes = 0 })
     unfolding markedMode
     unmarked-is h =
         let body = bodyOfNode text ws x in

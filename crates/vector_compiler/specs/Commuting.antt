@@ -12,18 +12,18 @@ use Rattle.model.specs.Base.{every, digit}
 use Rattle.model.specs.Word.{Name}
 use Rattle.model.specs.Mode.{Mode, Null, rank, depends, changes, compatible, clash}
 use Rattle.model.specs.Vector.{commute}
-use Rattle.model.specs.Image.{mask, onlyRead, readMask, writeMask}
-use Rattle.laws.specs.Modes.{rank-null, rank-read, rank-write, rank-lt, changes-depends, null-apart, apart-null}
+use Rattle.model.specs.Image.{mask, isRead, isWrite, isAdd, readMask, writeMask, addMask}
+use Rattle.laws.specs.Modes.{rank-null, rank-read, rank-add, rank-write, rank-lt, null-apart, apart-null}
 use Rattle.vector_direct.specs.declared.Vector.{Vector}
-use Rattle.vector_direct.specs.Masks.{mask-not, mask-same, mask-none, mask-or, mask-without}
+use Rattle.vector_direct.specs.Masks.{mask-not, mask-same, mask-none, mask-or, mask-and, mask-without}
 use Rattle.vector_direct.specs.Says.{Says}
 use Rattle.vector_compiler.specs.Lists.{at-place}
 use Rattle.vector_compiler.specs.Ranks.{Square, goes, allApart, row-length, rankMask, together, ranks-apart}
 
 -- The masks of a vector of modes.
 pub record Masks (modes : List Mode) (v : Vector) : Type 0 where
-  pub used : v .uses ≡ mask (map depends modes)
-  pub written : v .writes ≡ mask (map changes modes)
+  pub depend : v .depends ≡ mask (map depends modes)
+  pub change : v .changes ≡ mask (map changes modes)
 
 map-map : {A B C : Type 0} (f : B → C) (g : A → B) (xs : List A) → map (λ x. f (g x)) xs ≡ map f (map g xs)
 map-map f g [] = refl
@@ -31,66 +31,76 @@ map-map {C = C} f g (x ∷ xs) = ap (λ (ys : List C). f (g x) ∷ ys) (map-map 
 
 pub says-masks : (fields : List Name) (mode : Name → Mode) (v : Vector) → Says fields mode v → Masks (map mode fields) v
 says-masks fields mode v s = record {
-  used = s .used ∙ ap mask (map-map depends mode fields);
-  written = s .written ∙ ap mask (map-map changes mode fields);
-}
-
--- ---- the stored masks
-
--- The used fields without the written ones.
-abbrev pub onlyReads : Vector → ℕ
-onlyReads v = bitAnd (v .uses) ((2 ^ 32 - 1) - v .writes)
-
--- "a written field's read bit is 0"
-pub read-mask : (modes : List Mode) (v : Vector) → length modes ≤ 32 → Masks modes v → onlyReads v ≡ readMask modes
-read-mask modes v h m = ap₂ (λ (u w : ℕ). bitAnd u ((2 ^ 32 - 1) - w)) (m .used) (m .written) ∙ mask-without depends changes 32 modes h
-
-either : (m : Mode) → (onlyRead m || changes m) ≡ depends m
-either m = go (changes m) (depends m) (changes-depends m)
-  where
-    go : (c d : Bool) → (c ≡ true → d ≡ true) → ((d && not c) || c) ≡ d
-    go true true h = refl
-    go true false h = sym (h refl)
-    go false true h = refl
-    go false false h = refl
-
--- So what is used is what is read or written.
-pub stored-masks : (modes : List Mode) (read write : ℕ) → read ≡ readMask modes → write ≡ writeMask modes
-    → Masks modes (record { uses = bitOr read write; writes = write })
-stored-masks modes read write e k = record {
-  used = ap₂ bitOr e k ∙ mask-or onlyRead changes modes ∙ mask-same (λ m. onlyRead m || changes m) depends modes either;
-  written = k;
+  depend = s .depend ∙ ap mask (map-map depends mode fields);
+  change = s .change ∙ ap mask (map-map changes mode fields);
 }
 
 -- ---- the masks of the modes
 
--- The fields in the mode of a rank: neither used nor written, used and not written, written. A number that is no rank has none.
+-- The fields in the mode of a rank, by whether it depends on them and whether it changes them. A number that is no rank has none.
 abbrev pub modeMask : Vector → ℕ → ℕ
-modeMask v zero = (2 ^ 32 - 1) - bitOr (v .uses) (v .writes)
-modeMask v (suc zero) = onlyReads v
-modeMask v (suc (suc zero)) = v .writes
-modeMask v (suc (suc (suc i))) = 0
+modeMask v zero = (2 ^ 32 - 1) - bitOr (v .depends) (v .changes)
+modeMask v (suc zero) = bitAnd (v .depends) ((2 ^ 32 - 1) - v .changes)
+modeMask v (suc (suc zero)) = bitAnd (v .changes) ((2 ^ 32 - 1) - v .depends)
+modeMask v (suc (suc (suc zero))) = bitAnd (v .depends) (v .changes)
+modeMask v (suc (suc (suc (suc i)))) = 0
 
-pub past-masks : (v : Vector) (i : ℕ) → 3 ≤ i → modeMask v i ≡ 0
+pub past-masks : (v : Vector) (i : ℕ) → 4 ≤ i → modeMask v i ≡ 0
 past-masks v zero h = absurd (omega arith)
 past-masks v (suc zero) h = absurd (omega arith)
 past-masks v (suc (suc zero)) h = absurd (omega arith)
-past-masks v (suc (suc (suc i))) h = refl
+past-masks v (suc (suc (suc zero))) h = absurd (omega arith)
+past-masks v (suc (suc (suc (suc i)))) h = refl
+
+-- "a field's bit is set in at most one mask"
+module _ (modes : List Mode) (v : Vector) (h : length modes ≤ 32) (m : Masks modes v) where
+  pub read-mask : modeMask v 1 ≡ readMask modes
+  read-mask = ap₂ (λ (d c : ℕ). bitAnd d ((2 ^ 32 - 1) - c)) (m .depend) (m .change) ∙ mask-without depends changes 32 modes h
+
+  pub add-mask : modeMask v 2 ≡ addMask modes
+  add-mask = ap₂ (λ (d c : ℕ). bitAnd c ((2 ^ 32 - 1) - d)) (m .depend) (m .change) ∙ mask-without changes depends 32 modes h
+
+  pub write-mask : modeMask v 3 ≡ writeMask modes
+  write-mask = ap₂ bitAnd (m .depend) (m .change) ∙ mask-and depends changes modes
 
 -- Each of 32 modes is in the mask of its rank, and in no other.
 mode-mask : (modes : List Mode) (v : Vector) → length modes ≡ 32 → Masks modes v → (i : ℕ) → modeMask v i ≡ rankMask rank modes i
 unfolding rankMask
 mode-mask modes v h m zero =
     let busy : List Bool = map (λ a. depends a || changes a) modes in
-    ap₂ (λ (u w : ℕ). (2 ^ 32 - 1) - bitOr u w) (m .used) (m .written)
+    ap₂ (λ (d c : ℕ). (2 ^ 32 - 1) - bitOr d c) (m .depend) (m .change)
     ∙ ap (λ (n : ℕ). (2 ^ 32 - 1) - n) (mask-or depends changes modes)
     ∙ mask-not 32 busy (length-map modes (λ a. depends a || changes a) ∙ h)
     ∙ ap mask (sym (map-map not (λ a. depends a || changes a) modes))
     ∙ sym (mask-same (λ a. eqb (rank a) 0) (λ a. not (depends a || changes a)) modes rank-null)
-mode-mask modes v h m (suc zero) = read-mask modes v (omega arith) m ∙ sym (mask-same (λ a. eqb (rank a) 1) onlyRead modes rank-read)
-mode-mask modes v h m (suc (suc zero)) = m .written ∙ sym (mask-same (λ a. eqb (rank a) 2) changes modes rank-write)
-mode-mask modes v h m (suc (suc (suc i))) =
-    sym (mask-same (λ a. eqb (rank a) (suc (suc (suc i)))) (λ a. false) modes (λ a. ne-eqb (rank a) (suc (suc (suc i))) (λ e. omega (arith, rank-lt a))) ∙ mask-none modes)
+mode-mask modes v h m (suc zero) = read-mask modes v (omega arith) m ∙ sym (mask-same (λ a. eqb (rank a) 1) isRead modes rank-read)
+mode-mask modes v h m (suc (suc zero)) = add-mask modes v (omega arith) m ∙ sym (mask-same (λ a. eqb (rank a) 2) isAdd modes rank-add)
+mode-mask modes v h m (suc (suc (suc zero))) = write-mask modes v (omega arith) m ∙ sym (mask-same (λ a. eqb (rank a) 3) isWrite modes rank-write)
+mode-mask modes v h m (suc (suc (suc (suc i)))) =
+    let n = suc (suc (suc (suc i))) in
+    sym (mask-same (λ a. eqb (rank a) n) (λ a. false) modes (λ a. ne-eqb (rank a) n (λ e. omega (arith, rank-lt a))) ∙ mask-none modes)
+
+-- ---- the stored masks
+
+-- A field that is depended on is read or written, ..
+read-or-write : (d c : Bool) → ((d && not c) || (d && c)) ≡ d
+read-or-write true true = refl
+read-or-write true false = refl
+read-or-write false c = refl
+
+-- .. and one that is changed is written or added to.
+write-or-add : (d c : Bool) → ((d && c) || (c && not d)) ≡ c
+write-or-add true true = refl
+write-or-add true false = refl
+write-or-add false true = refl
+write-or-add false false = refl
+
+pub stored-masks : (modes : List Mode) (read write add : ℕ) → read ≡ readMask modes → write ≡ writeMask modes → add ≡ addMask modes
+    → Masks modes (record { depends = bitOr read write; changes = bitOr write add })
+stored-masks modes read write add r w a = record {
+  depend = ap₂ bitOr r w ∙ mask-or isRead isWrite modes ∙ mask-same (λ m. isRead m || isWrite m) depends modes (λ m. read-or-write (depends m) (changes m));
+  change = ap₂ bitOr w a ∙ mask-or isWrite isAdd modes ∙ mask-same (λ m. isWrite m || isAdd m) changes modes (λ m. write-or-add (depends m) (changes m));
+}
 
 -- ---- fields past the last one are Null
 
@@ -109,8 +119,8 @@ padded-mask p e (a ∷ modes) n = ap (λ (m : ℕ). m * 2 + digit (p a)) (padded
 
 padded-masks : (modes : List Mode) (v : Vector) → Masks modes v → Masks (padded modes) v
 padded-masks modes v m = record {
-  used = m .used ∙ sym (padded-mask depends refl modes (32 - length modes));
-  written = m .written ∙ sym (padded-mask changes refl modes (32 - length modes));
+  depend = m .depend ∙ sym (padded-mask depends refl modes (32 - length modes));
+  change = m .change ∙ sym (padded-mask changes refl modes (32 - length modes));
 }
 
 null-left : (n : ℕ) (ws : List Mode) → commute (replicate n Null) ws ≡ true

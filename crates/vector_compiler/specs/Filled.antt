@@ -8,11 +8,11 @@ use lib.ListN.{length, getD, set, length-set}
 use lib.Seq.{getD-set-other}
 use lib.Dec.{ltb}
 use borrow.Author.Tests.{ltb-true, ltb-false}
-use Rattle.layout.specs.Layout.{readMasksAt, writeMasksAt, commutingAt, classWords, classesAt, objectsAt, tableWords}
+use Rattle.layout.specs.Layout.{readMasksAt, writeMasksAt, commutingAt, addMasksAt, classWords, classesAt, objectsAt, tableWords}
 use Rattle.model.specs.Base.{upto}
 use Rattle.model.specs.Library.{Library, asRecorded}
 use Rattle.model.specs.Vector.{Vector, vectorsOf, program, programBy}
-use Rattle.model.specs.Image.{readMask, writeMask, commuteMask}
+use Rattle.model.specs.Image.{readMask, writeMask, addMask, commuteMask}
 use Rattle.laws.specs.Lists.{upto-at}
 use Rattle.catalog.specs.View.{classWord, classCount, memberCount, classOf, libraryOf}
 use Rattle.laws.specs.Upto.{upto-same}
@@ -109,6 +109,7 @@ pub record MethodMasks (vs : List Vector) (c j : ℕ) (ws : List ℕ) : Type 0 w
   pub read : classWord ws c (readMasksAt + j) ≡ readMask (getD vs j [])
   pub write : classWord ws c (writeMasksAt + j) ≡ writeMask (getD vs j [])
   pub commuting : classWord ws c (commutingAt + j) ≡ commuteMask vs (getD vs j [])
+  pub add : classWord ws c (addMasksAt + j) ≡ addMask (getD vs j [])
 
 -- The masks of every method of every class of the library in the tables are stored, and no other word is altered. (Shorter
 -- tables have no room for them.)

@@ -10,12 +10,12 @@ use lib.Seq.{getD-set-same, getD-set-other}
 use lib.Bits.{bitOr}
 use lib.Dec.{eqb}
 use borrow.Author.Tests.{eqb-true, eqb-false}
-use Rattle.layout.specs.Layout.{readMasksAt, writeMasksAt, commutingAt, classWords, classesAt, tableWords}
+use Rattle.layout.specs.Layout.{readMasksAt, writeMasksAt, commutingAt, addMasksAt, classWords, classesAt, tableWords}
 use Rattle.model.specs.Base.{upto}
 use Rattle.model.specs.Library.{Library, Member, Class, classAt, asRecorded, methodNames}
 use Rattle.model.specs.Vector.{transitive, commute}
 use Rattle.model.specs.Vector as model
-use Rattle.model.specs.Image.{mask, readMask, writeMask, commuteMask}
+use Rattle.model.specs.Image.{mask, readMask, writeMask, addMask, commuteMask}
 use Rattle.catalog.specs.View.{classWord, classCount, memberCount, classOf, libraryOf}
 use Rattle.laws.specs.Upto.{upto-same}
 use Rattle.catalog.specs.Look.{class-at, member-count}
@@ -23,63 +23,82 @@ use Rattle.vector_direct.specs.declared.Vector.{Vector}
 use Rattle.vector_direct.specs.Fields.{map-upto}
 use Rattle.vector_compiler.specs.Lists.{listed}
 use Rattle.vector_compiler.specs.Closure.{VectorFound, vector-length}
-use Rattle.vector_compiler.specs.Commuting.{Masks, onlyReads, apart, stored-masks, apart-commute, read-mask}
+use Rattle.vector_compiler.specs.Commuting.{Masks, modeMask, read-mask, write-mask, add-mask, stored-masks, apart, apart-commute}
 use Rattle.vector_compiler.specs.Filled.{Within, OnlyMasks, within-none, within-set, within-then, masks-none, masks-then, MasksOf, masks-of-class, same-classes, same-methods, same-library, vectorsIn, MethodMasks, Filled}
 
--- ---- the loop that stores two masks of each method
+-- ---- the loop that stores the masks of each method's modes
+
+-- The place of the mask of class c's method j in a row of masks.
+abbrev maskPlace : ℕ → ℕ → ℕ → ℕ
+maskPlace c row j = classesAt + (c * classWords + (row + j))
 
 -- The tables with a vector stored.
 abbrev pub withVector : List ℕ → ℕ → ℕ → Vector → List ℕ
-withVector ws c j v = set (set ws (classesAt + (c * classWords + (readMasksAt + j))) (onlyReads v)) (classesAt + (c * classWords + (writeMasksAt + j))) (v .writes)
+withVector ws c j v =
+    set (set (set ws (maskPlace c readMasksAt j) (modeMask v 1)) (maskPlace c writeMasksAt j) (modeMask v 3)) (maskPlace c addMasksAt j) (modeMask v 2)
 
 -- It alters masks of its class.
 pub vector-within : (ws : List ℕ) (c j : ℕ) (v : Vector) → j < 32 → MasksOf c ws (withVector ws c j v)
 vector-within ws c j v h =
     let from = classesAt + readMasksAt + c * classWords in
     let end = classesAt + classWords + c * classWords in
-    let read = classesAt + (c * classWords + (readMasksAt + j)) in
-    let write = classesAt + (c * classWords + (writeMasksAt + j)) in
+    let one = set ws (maskPlace c readMasksAt j) (modeMask v 1) in
+    let two = set one (maskPlace c writeMasksAt j) (modeMask v 3) in
     within-then from end
-    (within-set from end ws read (onlyReads v) (omega arith) (omega arith))
-    (within-set from end (set ws read (onlyReads v)) write (v .writes) (omega arith) (omega arith))
+    (within-then from end
+    (within-set from end ws (maskPlace c readMasksAt j) (modeMask v 1) (omega arith) (omega arith))
+    (within-set from end one (maskPlace c writeMasksAt j) (modeMask v 3) (omega arith) (omega arith)))
+    (within-set from end two (maskPlace c addMasksAt j) (modeMask v 2) (omega arith) (omega arith))
 
--- The read and the write mask of method j of class c, where the class's methods have the vectors vs.
-pub record TwoMasks (vs : List model.Vector) (c j : ℕ) (ws : List ℕ) : Type 0 where
+-- The masks of Read, Write and Add of method j of class c, where the class's methods have the vectors vs.
+pub record ModeMasks (vs : List model.Vector) (c j : ℕ) (ws : List ℕ) : Type 0 where
   pub read : classWord ws c (readMasksAt + j) ≡ readMask (getD vs j [])
   pub write : classWord ws c (writeMasksAt + j) ≡ writeMask (getD vs j [])
+  pub add : classWord ws c (addMasksAt + j) ≡ addMask (getD vs j [])
 
 -- The first n methods of class c have them.
-pub record TwoTo (text ws : List ℕ) (c n : ℕ) (ws′ : List ℕ) : Type 0 where
+pub record ModesTo (text ws : List ℕ) (c n : ℕ) (ws′ : List ℕ) : Type 0 where
   pub within : MasksOf c ws ws′
-  pub masks : tableWords ≤ length ws → c < classCount ws → (j : ℕ) → j < n → TwoMasks (vectorsIn (libraryOf text ws) c) c j ws′
+  pub masks : tableWords ≤ length ws → c < classCount ws → (j : ℕ) → j < n → ModeMasks (vectorsIn (libraryOf text ws) c) c j ws′
 
-pub two-none : (text ws : List ℕ) (c : ℕ) → TwoTo text ws c 0 ws
-two-none text ws c = record { within = within-none (classesAt + readMasksAt + c * classWords) (classesAt + classWords + c * classWords) ws; masks = λ h k j l. absurd (omega arith) }
+pub modes-none : (text ws : List ℕ) (c : ℕ) → ModesTo text ws c 0 ws
+modes-none text ws c = record { within = within-none (classesAt + readMasksAt + c * classWords) (classesAt + classWords + c * classWords) ws; masks = λ h k j l. absurd (omega arith) }
 
-module _ (text ws : List ℕ) (c n : ℕ) (ws₁ : List ℕ) (i : TwoTo text ws c n ws₁) (v : Vector) (below : n < memberCount ws c 1) where
+module _ (text ws : List ℕ) (c n : ℕ) (ws₁ : List ℕ) (i : ModesTo text ws c n ws₁) (v : Vector) (below : n < memberCount ws c 1) where
   few : n < 32
   unfolding memberCount
   few = omega arith
 
   abbrev readAt : ℕ → ℕ
-  readAt j = classesAt + (c * classWords + (readMasksAt + j))
+  readAt j = maskPlace c readMasksAt j
 
   abbrev writeAt : ℕ → ℕ
-  writeAt j = classesAt + (c * classWords + (writeMasksAt + j))
+  writeAt j = maskPlace c writeMasksAt j
+
+  abbrev addAt : ℕ → ℕ
+  addAt j = maskPlace c addMasksAt j
+
+  abbrev one : List ℕ
+  one = set ws₁ (readAt n) (modeMask v 1)
+
+  abbrev two : List ℕ
+  two = set one (writeAt n) (modeMask v 3)
 
   abbrev after : List ℕ
   after = withVector ws₁ c n v
 
-  old : (k : ℕ) → k ≢ readAt n → k ≢ writeAt n → getD after k 0 ≡ getD ws₁ k 0
-  old k p q = getD-set-other (set ws₁ (readAt n) (onlyReads v)) (writeAt n) k (v .writes) 0 q ∙ getD-set-other ws₁ (readAt n) k (onlyReads v) 0 p
+  old : (k : ℕ) → k ≢ readAt n → k ≢ writeAt n → k ≢ addAt n → getD after k 0 ≡ getD ws₁ k 0
+  old k p q r =
+      getD-set-other two (addAt n) k (modeMask v 2) 0 r ∙ getD-set-other one (writeAt n) k (modeMask v 3) 0 q ∙ getD-set-other ws₁ (readAt n) k (modeMask v 1) 0 p
 
-  old-masks : (vs : List model.Vector) (j : ℕ) → j < n → TwoMasks vs c j ws₁ → TwoMasks vs c j after
+  old-masks : (vs : List model.Vector) (j : ℕ) → j < n → ModeMasks vs c j ws₁ → ModeMasks vs c j after
   unfolding classWord
   old-masks vs j h m =
       let f = few in
       record {
-        read = old (readAt j) (λ e. omega arith) (λ e. omega arith) ∙ m .read;
-        write = old (writeAt j) (λ e. omega arith) (λ e. omega arith) ∙ m .write;
+        read = old (readAt j) (λ e. omega arith) (λ e. omega arith) (λ e. omega arith) ∙ m .read;
+        write = old (writeAt j) (λ e. omega arith) (λ e. omega arith) (λ e. omega arith) ∙ m .write;
+        add = old (addAt j) (λ e. omega arith) (λ e. omega arith) (λ e. omega arith) ∙ m .add;
       }
 
   module _ (size : tableWords ≤ length ws) (known : c < classCount ws) (found : VectorFound text ws₁ c n v) where
@@ -91,61 +110,76 @@ module _ (text ws : List ℕ) (c n : ℕ) (ws₁ : List ℕ) (i : TwoTo text ws 
         subst (λ (l : Library). Masks (getD (vectorsIn l c) n []) v) (same-library only text)
         (found (omega (arith, same-classes only)) (omega (arith, same-methods only c (omega arith))))
 
-    new-masks : TwoMasks (vectorsIn (libraryOf text ws) c) c n after
+    new-masks : ModeMasks (vectorsIn (libraryOf text ws) c) c n after
     unfolding classWord
     new-masks =
         let f = few in
         let s = i .within .size in
+        let t = length-set ws₁ (readAt n) (modeMask v 1) in
+        let u = length-set one (writeAt n) (modeMask v 3) in
+        let modes = getD (vectorsIn (libraryOf text ws) c) n [] in
+        let long = vector-length text ws c n known below in
         record {
           read =
-              getD-set-other (set ws₁ (readAt n) (onlyReads v)) (writeAt n) (readAt n) (v .writes) 0 (λ e. omega arith)
-              ∙ getD-set-same ws₁ (readAt n) (onlyReads v) 0 (omega arith)
-              ∙ read-mask (getD (vectorsIn (libraryOf text ws) c) n []) v (vector-length text ws c n known below) vector;
+              getD-set-other two (addAt n) (readAt n) (modeMask v 2) 0 (λ e. omega arith)
+              ∙ getD-set-other one (writeAt n) (readAt n) (modeMask v 3) 0 (λ e. omega arith)
+              ∙ getD-set-same ws₁ (readAt n) (modeMask v 1) 0 (omega arith)
+              ∙ read-mask modes v long vector;
           write =
-              getD-set-same (set ws₁ (readAt n) (onlyReads v)) (writeAt n) (v .writes) 0 (omega (arith, length-set ws₁ (readAt n) (onlyReads v)))
-              ∙ vector .written;
+              getD-set-other two (addAt n) (writeAt n) (modeMask v 2) 0 (λ e. omega arith)
+              ∙ getD-set-same one (writeAt n) (modeMask v 3) 0 (omega arith)
+              ∙ write-mask modes v long vector;
+          add = getD-set-same two (addAt n) (modeMask v 2) 0 (omega arith) ∙ add-mask modes v long vector;
         }
 
   -- One method more.
-  pub two-more : (ws₂ : List ℕ) → VectorFound text ws₁ c n v → ws₂ ≡ after → TwoTo text ws c (n + 1) ws₂
-  two-more ws₂ found q =
-      subst (TwoTo text ws c (n + 1)) (sym q) (record {
+  pub modes-more : (ws₂ : List ℕ) → VectorFound text ws₁ c n v → ws₂ ≡ after → ModesTo text ws c (n + 1) ws₂
+  modes-more ws₂ found q =
+      subst (ModesTo text ws c (n + 1)) (sym q) (record {
         within = within-then (classesAt + readMasksAt + c * classWords) (classesAt + classWords + c * classWords) (i .within) (vector-within ws₁ c n v few);
         masks = λ size known j h. go size known j h (eqb j n) refl;
       })
     where
-      go : tableWords ≤ length ws → c < classCount ws → (j : ℕ) → j < n + 1 → (t : Bool) → eqb j n ≡ t → TwoMasks (vectorsIn (libraryOf text ws) c) c j after
-      go size known j h true t = subst (λ (k : ℕ). TwoMasks (vectorsIn (libraryOf text ws) c) c k after) (sym (eqb-true j n t)) (new-masks size known found)
+      go : tableWords ≤ length ws → c < classCount ws → (j : ℕ) → j < n + 1 → (t : Bool) → eqb j n ≡ t → ModeMasks (vectorsIn (libraryOf text ws) c) c j after
+      go size known j h true t = subst (λ (k : ℕ). ModeMasks (vectorsIn (libraryOf text ws) c) c k after) (sym (eqb-true j n t)) (new-masks size known found)
       go size known j h false t =
           let l : j < n = omega (arith, eqb-false j n t) in
           old-masks (vectorsIn (libraryOf text ws) c) j l (i .masks size known j l)
 
 -- ---- the loop that stores the commuting masks
 
--- A method's vector, by the two masks that are stored.
+-- A method's vector, by the three masks that are stored.
 abbrev pub stored : List ℕ → ℕ → ℕ → Vector
-stored ws c j = record { uses = bitOr (classWord ws c (readMasksAt + j)) (classWord ws c (writeMasksAt + j)); writes = classWord ws c (writeMasksAt + j) }
+stored ws c j = record {
+  depends = bitOr (classWord ws c (readMasksAt + j)) (classWord ws c (writeMasksAt + j));
+  changes = bitOr (classWord ws c (writeMasksAt + j)) (classWord ws c (addMasksAt + j));
+}
 
 -- The methods of class c that its method j commutes with, by what is stored.
 unfoldable pub commutingMask : List ℕ → ℕ → ℕ → ℕ
 unfolding mask upto classWord memberCount
 commutingMask ws c j = mask (upto (λ k. apart (stored ws c j) (stored ws c k)) (memberCount ws c 1))
 
+-- Only commuting masks of class c are altered.
+abbrev CommutingOf : ℕ → List ℕ → List ℕ → Type 0
+CommutingOf c ws ws′ = Within (classesAt + commutingAt + c * classWords) (classesAt + addMasksAt + c * classWords) ws ws′
+
 -- The first n methods of class c have their commuting mask, and nothing else is altered.
 pub record CommutingTo (ws : List ℕ) (c n : ℕ) (ws′ : List ℕ) : Type 0 where
-  pub within : Within (classesAt + commutingAt + c * classWords) (classesAt + classWords + c * classWords) ws ws′
+  pub within : CommutingOf c ws ws′
   pub masks : tableWords ≤ length ws → c < 16 → (j : ℕ) → j < n → classWord ws′ c (commutingAt + j) ≡ commutingMask ws c j
 
 pub commuting-none : (ws : List ℕ) (c : ℕ) → CommutingTo ws c 0 ws
-commuting-none ws c = record { within = within-none (classesAt + commutingAt + c * classWords) (classesAt + classWords + c * classWords) ws; masks = λ h k j l. absurd (omega arith) }
+commuting-none ws c = record { within = within-none (classesAt + commutingAt + c * classWords) (classesAt + addMasksAt + c * classWords) ws; masks = λ h k j l. absurd (omega arith) }
 
-module _ (ws : List ℕ) (c : ℕ) (ws₁ : List ℕ) (h : Within (classesAt + commutingAt + c * classWords) (classesAt + classWords + c * classWords) ws ws₁) where
+module _ (ws : List ℕ) (c : ℕ) (ws₁ : List ℕ) (h : CommutingOf c ws ws₁) where
   stored-same : (j : ℕ) → j < 32 → stored ws₁ c j ≡ stored ws c j
   unfolding classWord
   stored-same j l =
-      let r = h .low (classesAt + (c * classWords + (readMasksAt + j))) (omega arith) in
-      let w = h .low (classesAt + (c * classWords + (writeMasksAt + j))) (omega arith) in
-      λ i. record { uses = bitOr (r i) (w i); writes = w i }
+      let r = h .low (maskPlace c readMasksAt j) (omega arith) in
+      let w = h .low (maskPlace c writeMasksAt j) (omega arith) in
+      let a = h .high (maskPlace c addMasksAt j) (omega arith) in
+      λ i. record { depends = bitOr (r i) (w i); changes = bitOr (w i) (a i) }
 
   commuting-same : (j : ℕ) → j < 32 → commutingMask ws₁ c j ≡ commutingMask ws c j
   unfolding commutingMask memberCount classWord
@@ -157,7 +191,7 @@ module _ (ws : List ℕ) (c : ℕ) (ws₁ : List ℕ) (h : Within (classesAt + c
 
 module _ (ws : List ℕ) (c n : ℕ) (ws₁ : List ℕ) (few : n < 32) (i : CommutingTo ws c n ws₁) where
   abbrev place : ℕ
-  place = classesAt + (c * classWords + (commutingAt + n))
+  place = maskPlace c commutingAt n
 
   abbrev stores : List ℕ
   stores = set ws₁ place (commutingMask ws₁ c n)
@@ -166,7 +200,10 @@ module _ (ws : List ℕ) (c n : ℕ) (ws₁ : List ℕ) (few : n < 32) (i : Comm
   pub commuting-more : (at m : ℕ) (ws₂ : List ℕ) → at ≡ place → m ≡ commutingMask ws₁ c n → ws₂ ≡ set ws₁ at m → CommutingTo ws c (n + 1) ws₂
   unfolding classWord
   commuting-more at m ws₂ e q k = subst (CommutingTo ws c (n + 1)) (sym (k ∙ ap₂ (λ (j v : ℕ). set ws₁ j v) e q)) (record {
-    within = within-then (classesAt + commutingAt + c * classWords) (classesAt + classWords + c * classWords) (i .within) (within-set (classesAt + commutingAt + c * classWords) (classesAt + classWords + c * classWords) ws₁ place (commutingMask ws₁ c n) (omega arith) (omega arith));
+    within =
+        let from = classesAt + commutingAt + c * classWords in
+        let end = classesAt + addMasksAt + c * classWords in
+        within-then from end (i .within) (within-set from end ws₁ place (commutingMask ws₁ c n) (omega arith) (omega arith));
     masks = λ size known j h. go size known j h (eqb j n) refl;
   })
     where
@@ -181,7 +218,7 @@ module _ (ws : List ℕ) (c n : ℕ) (ws₁ : List ℕ) (few : n < 32) (i : Comm
 
 -- ---- a class
 
--- Each method of class c has its three masks, and no other word is altered.
+-- Each method of class c has its four masks, and no other word is altered.
 pub record ClassFilled (text ws : List ℕ) (c : ℕ) (ws′ : List ℕ) : Type 0 where
   pub within : MasksOf c ws ws′
   pub masks : tableWords ≤ length ws → c < classCount ws → (j : ℕ) → j < memberCount ws c 1 → MethodMasks (vectorsIn (libraryOf text ws) c) c j ws′
@@ -201,11 +238,11 @@ module _ (text ws : List ℕ) (c : ℕ) (known : c < classCount ws) where
       ∙ ap (λ (k : Class). length (k .methods)) (class-at text ws c known)
       ∙ member-count text ws c 1
 
-  -- Where both masks of every method are right, so are the commuting masks made of them.
-  commuting-right : (ws₁ : List ℕ) → memberCount ws₁ c 1 ≡ memberCount ws c 1 → ((j : ℕ) → j < memberCount ws c 1 → TwoMasks vs c j ws₁)
+  -- Where the three masks of every method are right, so are the commuting masks made of them.
+  commuting-right : (ws₁ : List ℕ) → memberCount ws₁ c 1 ≡ memberCount ws c 1 → ((j : ℕ) → j < memberCount ws c 1 → ModeMasks vs c j ws₁)
       → (j : ℕ) → j < memberCount ws c 1 → commutingMask ws₁ c j ≡ commuteMask vs (getD vs j [])
   unfolding commutingMask
-  commuting-right ws₁ e two j h =
+  commuting-right ws₁ e modes j h =
       ap (λ (n : ℕ). mask (upto (λ k. apart (stored ws₁ c j) (stored ws₁ c k)) n)) e
       ∙ ap mask (upto-same (λ k. commute (getD vs j []) (getD vs k [])) (λ k. apart (stored ws₁ c j) (stored ws₁ c k)) (memberCount ws c 1)
       (λ k m. apart-commute (getD vs j []) (getD vs k []) (stored ws₁ c j) (stored ws₁ c k) (vector-length text ws c j known h) (vector-length text ws c k known m) (masks j h) (masks k m)))
@@ -214,31 +251,34 @@ module _ (text ws : List ℕ) (c : ℕ) (known : c < classCount ws) where
       ∙ map-upto (commute (getD vs j [])) (λ k. getD vs k []) (length vs)))
     where
       masks : (k : ℕ) → k < memberCount ws c 1 → Masks (getD vs k []) (stored ws₁ c k)
-      masks k m = stored-masks (getD vs k []) (classWord ws₁ c (readMasksAt + k)) (classWord ws₁ c (writeMasksAt + k)) (two k m .read) (two k m .write)
+      masks k m =
+          let word : ℕ → ℕ = λ row. classWord ws₁ c (row + k) in
+          stored-masks (getD vs k []) (word readMasksAt) (word writeMasksAt) (word addMasksAt) (modes k m .read) (modes k m .write) (modes k m .add)
 
-pub class-filled : (text ws : List ℕ) (c : ℕ) (ws₁ ws₂ : List ℕ) → TwoTo text ws c (memberCount ws c 1) ws₁ → CommutingTo ws₁ c (memberCount ws₁ c 1) ws₂
+pub class-filled : (text ws : List ℕ) (c : ℕ) (ws₁ ws₂ : List ℕ) → ModesTo text ws c (memberCount ws c 1) ws₁ → CommutingTo ws₁ c (memberCount ws₁ c 1) ws₂
     → ClassFilled text ws c ws₂
 unfolding classWord memberCount
-class-filled text ws c ws₁ ws₂ two commuting = record {
-  within = within-then (classesAt + readMasksAt + c * classWords) (classesAt + classWords + c * classWords) (two .within) (record {
+class-filled text ws c ws₁ ws₂ modes commuting = record {
+  within = within-then (classesAt + readMasksAt + c * classWords) (classesAt + classWords + c * classWords) (modes .within) (record {
     size = commuting .within .size;
     low = λ i h. commuting .within .low i (omega arith);
-    high = commuting .within .high;
+    high = λ i h. commuting .within .high i (omega arith);
   });
   masks = masks;
 }
   where
     masks : tableWords ≤ length ws → c < classCount ws → (j : ℕ) → j < memberCount ws c 1 → MethodMasks (vectorsIn (libraryOf text ws) c) c j ws₂
     masks size known j h =
-        let only = masks-of-class c ws ws₁ (omega arith) (two .within) in
+        let only = masks-of-class c ws ws₁ (omega arith) (modes .within) in
         let count = same-methods only c (omega arith) in
-        let there = two .masks size known in
+        let there = modes .masks size known in
         record {
-          read = commuting .within .low (classesAt + (c * classWords + (readMasksAt + j))) (omega arith) ∙ there j h .read;
-          write = commuting .within .low (classesAt + (c * classWords + (writeMasksAt + j))) (omega arith) ∙ there j h .write;
+          read = commuting .within .low (maskPlace c readMasksAt j) (omega arith) ∙ there j h .read;
+          write = commuting .within .low (maskPlace c writeMasksAt j) (omega arith) ∙ there j h .write;
           commuting =
               commuting .masks (omega (arith, only .size)) (omega arith) j (omega arith)
               ∙ commuting-right text ws c known ws₁ count there j h;
+          add = commuting .within .high (maskPlace c addMasksAt j) (omega arith) ∙ there j h .add;
         }
 
 -- ---- all classes
@@ -260,9 +300,10 @@ filled-more text ws n ws₁ ws₂ known i f = record {
   where
     earlier : (c j : ℕ) → c < n → j < memberCount ws c 1 → MethodMasks (vectorsIn (libraryOf text ws) c) c j ws₁ → MethodMasks (vectorsIn (libraryOf text ws) c) c j ws₂
     earlier c j h k m = record {
-      read = f .within .low (classesAt + (c * classWords + (readMasksAt + j))) (omega arith) ∙ m .read;
-      write = f .within .low (classesAt + (c * classWords + (writeMasksAt + j))) (omega arith) ∙ m .write;
-      commuting = f .within .low (classesAt + (c * classWords + (commutingAt + j))) (omega arith) ∙ m .commuting;
+      read = f .within .low (maskPlace c readMasksAt j) (omega arith) ∙ m .read;
+      write = f .within .low (maskPlace c writeMasksAt j) (omega arith) ∙ m .write;
+      commuting = f .within .low (maskPlace c commutingAt j) (omega arith) ∙ m .commuting;
+      add = f .within .low (maskPlace c addMasksAt j) (omega arith) ∙ m .add;
     }
 
     this : tableWords ≤ length ws → (j : ℕ) → j < memberCount ws n 1 → MethodMasks (vectorsIn (libraryOf text ws) n) n j ws₂

@@ -39,7 +39,7 @@ abbrev pub joinedModes : (ℕ → Name → Mode) → ℕ → Name → Mode
 joinedModes h n f = joins (upto (λ i. h i f) n)
 
 module _ (fields : List Name) (h : ℕ → Name → Mode) where
-  pub none-joined : Says fields (joinedModes h 0) (record { uses = 0; writes = 0 })
+  pub none-joined : Says fields (joinedModes h 0) (record { depends = 0; changes = 0 })
   unfolding upto joins
   none-joined = says-nothing fields (joinedModes h 0) (λ f. refl)
 

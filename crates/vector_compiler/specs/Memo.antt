@@ -36,14 +36,14 @@ use Rattle.vector_compiler.specs.Filling.{withVector, vector-within}
 -- What vertex x does by itself, over the fields of class c.
 pub record Right (text ws : List ℕ) (c x : ℕ) (d : Direct) : Type 0 where
   pub body : bodyOfNode text ws x ≡ upto (statementAt text ws (d .first)) (d .size)
-  pub vector : Says (fieldsIn text ws c) (λ f. inBody f (bodyOfNode text ws x)) (record { uses = d .uses; writes = d .writes })
+  pub vector : Says (fieldsIn text ws c) (λ f. inBody f (bodyOfNode text ws x)) (record { depends = d .depends; changes = d .changes })
 
 -- The words of vertex x.
 abbrev pub rowAt : List ℕ → ℕ → Direct
-rowAt bs x = record { first = getD bs (x * 5 + 1) 0; size = getD bs (x * 5 + 2) 0; uses = getD bs (x * 5 + 3) 0; writes = getD bs (x * 5 + 4) 0 }
+rowAt bs x = record { first = getD bs (x * 5 + 1) 0; size = getD bs (x * 5 + 2) 0; depends = getD bs (x * 5 + 3) 0; changes = getD bs (x * 5 + 4) 0 }
 
 abbrev pub withRow : List ℕ → ℕ → Direct → List ℕ
-withRow bs x d = set (set (set (set (set bs (x * 5) 1) (x * 5 + 1) (d .first)) (x * 5 + 2) (d .size)) (x * 5 + 3) (d .uses)) (x * 5 + 4) (d .writes)
+withRow bs x d = set (set (set (set (set bs (x * 5) 1) (x * 5 + 1) (d .first)) (x * 5 + 2) (d .size)) (x * 5 + 3) (d .depends)) (x * 5 + 4) (d .changes)
 
 -- What is kept of vertices is right.
 pub record Bodies (text ws : List ℕ) (c : ℕ) (bs : List ℕ) : Type 0 where
@@ -69,17 +69,17 @@ module _ (bs : List ℕ) (x : ℕ) (d : Direct) where
   s₂ = set s₁ (x * 5 + 2) (d .size)
 
   abbrev s₃ : List ℕ
-  s₃ = set s₂ (x * 5 + 3) (d .uses)
+  s₃ = set s₂ (x * 5 + 3) (d .depends)
 
   row-length : length (withRow bs x d) ≡ length bs
   row-length =
-      length-set s₃ (x * 5 + 4) (d .writes) ∙ length-set s₂ (x * 5 + 3) (d .uses) ∙ length-set s₁ (x * 5 + 2) (d .size)
+      length-set s₃ (x * 5 + 4) (d .changes) ∙ length-set s₂ (x * 5 + 3) (d .depends) ∙ length-set s₁ (x * 5 + 2) (d .size)
       ∙ length-set s₀ (x * 5 + 1) (d .first) ∙ length-set bs (x * 5) 1
 
   other-word : (y k : ℕ) → y ≢ x → k < 5 → getD (withRow bs x d) (y * 5 + k) 0 ≡ getD bs (y * 5 + k) 0
   other-word y k n h =
-      getD-set-other s₃ (x * 5 + 4) (y * 5 + k) (d .writes) 0 (λ e. n (omega arith))
-      ∙ getD-set-other s₂ (x * 5 + 3) (y * 5 + k) (d .uses) 0 (λ e. n (omega arith))
+      getD-set-other s₃ (x * 5 + 4) (y * 5 + k) (d .changes) 0 (λ e. n (omega arith))
+      ∙ getD-set-other s₂ (x * 5 + 3) (y * 5 + k) (d .depends) 0 (λ e. n (omega arith))
       ∙ getD-set-other s₁ (x * 5 + 2) (y * 5 + k) (d .size) 0 (λ e. n (omega arith))
       ∙ getD-set-other s₀ (x * 5 + 1) (y * 5 + k) (d .first) 0 (λ e. n (omega arith))
       ∙ getD-set-other bs (x * 5) (y * 5 + k) 1 0 (λ e. n (omega arith))
@@ -90,28 +90,28 @@ module _ (bs : List ℕ) (x : ℕ) (d : Direct) where
       let b = other-word y 2 n (omega arith) in
       let u = other-word y 3 n (omega arith) in
       let w = other-word y 4 n (omega arith) in
-      λ i. record { first = a i; size = b i; uses = u i; writes = w i }
+      λ i. record { first = a i; size = b i; depends = u i; changes = w i }
 
   this-row : x * 5 + 4 < length bs → rowAt (withRow bs x d) x ≡ d
   this-row h =
       let l₀ = length-set bs (x * 5) 1 in
       let l₁ = length-set s₀ (x * 5 + 1) (d .first) in
       let l₂ = length-set s₁ (x * 5 + 2) (d .size) in
-      let l₃ = length-set s₂ (x * 5 + 3) (d .uses) in
+      let l₃ = length-set s₂ (x * 5 + 3) (d .depends) in
       let a =
-      getD-set-other s₃ (x * 5 + 4) (x * 5 + 1) (d .writes) 0 (λ e. omega arith)
-      ∙ getD-set-other s₂ (x * 5 + 3) (x * 5 + 1) (d .uses) 0 (λ e. omega arith)
+      getD-set-other s₃ (x * 5 + 4) (x * 5 + 1) (d .changes) 0 (λ e. omega arith)
+      ∙ getD-set-other s₂ (x * 5 + 3) (x * 5 + 1) (d .depends) 0 (λ e. omega arith)
       ∙ getD-set-other s₁ (x * 5 + 2) (x * 5 + 1) (d .size) 0 (λ e. omega arith)
       ∙ getD-set-same s₀ (x * 5 + 1) (d .first) 0 (omega arith) in
       let b =
-      getD-set-other s₃ (x * 5 + 4) (x * 5 + 2) (d .writes) 0 (λ e. omega arith)
-      ∙ getD-set-other s₂ (x * 5 + 3) (x * 5 + 2) (d .uses) 0 (λ e. omega arith)
+      getD-set-other s₃ (x * 5 + 4) (x * 5 + 2) (d .changes) 0 (λ e. omega arith)
+      ∙ getD-set-other s₂ (x * 5 + 3) (x * 5 + 2) (d .depends) 0 (λ e. omega arith)
       ∙ getD-set-same s₁ (x * 5 + 2) (d .size) 0 (omega arith) in
       let u =
-      getD-set-other s₃ (x * 5 + 4) (x * 5 + 3) (d .writes) 0 (λ e. omega arith)
-      ∙ getD-set-same s₂ (x * 5 + 3) (d .uses) 0 (omega arith) in
-      let w = getD-set-same s₃ (x * 5 + 4) (d .writes) 0 (omega arith) in
-      λ i. record { first = a i; size = b i; uses = u i; writes = w i }
+      getD-set-other s₃ (x * 5 + 4) (x * 5 + 3) (d .changes) 0 (λ e. omega arith)
+      ∙ getD-set-same s₂ (x * 5 + 3) (d .depends) 0 (omega arith) in
+      let w = getD-set-same s₃ (x * 5 + 4) (d .changes) 0 (omega arith) in
+      λ i. record { first = a i; size = b i; depends = u i; changes = w i }
 
 module _ (text ws : List ℕ) (c : ℕ) where
   pub bodies-none : (bs : List ℕ) → bs ≡ replicate 2560 0 → Bodies text ws c bs
@@ -233,8 +233,8 @@ module _ (text : List ℕ) {ws ws′ : List ℕ} (h : OnlyMasks ws ws′) where
         same-body x l ∙ r .body
         ∙ sym (upto-same (statementAt text ws (d .first)) (statementAt text ws′ (d .first)) (d .size) (λ i k. ap (λ (p : Placed). p .statement) (same-placed (d .first + i))));
     vector =
-        subst (λ (b : List Statement). Says (fieldsIn text ws′ c) (λ f. inBody f b) (record { uses = d .uses; writes = d .writes })) (sym (same-body x l))
-        (subst (λ (k : Library). Says (fieldNames k c) (λ f. inBody f (bodyOfNode text ws x)) (record { uses = d .uses; writes = d .writes })) (sym (same-library h text)) (r .vector));
+        subst (λ (b : List Statement). Says (fieldsIn text ws′ c) (λ f. inBody f b) (record { depends = d .depends; changes = d .changes })) (sym (same-body x l))
+        (subst (λ (k : Library). Says (fieldNames k c) (λ f. inBody f (bodyOfNode text ws x)) (record { depends = d .depends; changes = d .changes })) (sym (same-library h text)) (r .vector));
   }
 
   same-call : (c first i : ℕ) → callAt text ws′ c first i ≡ callAt text ws c first i

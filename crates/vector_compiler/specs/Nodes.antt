@@ -127,14 +127,14 @@ module _ (text ws : List ℕ) (c : ℕ) where
   -- The vertex that an action calls, where it has a number.
   one-callee : (a : Action) (y : ℕ) → numberIn l (callee l c a) ≡ y → y < 512 → (v : Node) × List·Memᴰ v (callee l c a) × (numberOf l v ≡ y)
   unfolding callee
-  one-callee (assign f e) y q h = absurd (omega arith)
+  one-callee (assign how f e) y q h = absurd (omega arith)
   one-callee (send m e) y q h = (record { class = c; method = m }, List·Memᴰ·head refl, q)
   one-callee (sendPrefixed d m e) y q h = (_, List·Memᴰ·head refl, q)
   one-callee (reply e) y q h = absurd (omega arith)
 
   callee-one : (a : Action) (v : Node) → List·Memᴰ v (callee l c a) → numberIn l (callee l c a) ≡ numberOf l v
   unfolding callee
-  callee-one (assign f e) v m = absurd (List·Memᴰ·not-nil m)
+  callee-one (assign how f e) v m = absurd (List·Memᴰ·not-nil m)
   callee-one (send n e) v m = ap (numberOf l) (sym (List·Memᴰ·eq-of-singleton m))
   callee-one (sendPrefixed d n e) v m = ap (numberOf l) (sym (List·Memᴰ·eq-of-singleton m))
   callee-one (reply e) v m = absurd (List·Memᴰ·not-nil m)

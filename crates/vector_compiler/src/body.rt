@@ -67,7 +67,10 @@ pub fn body_vector(text: &[u8], tables: &[u32], class: u32, node: u32) -> Vector
     let body = body_of(text, tables, node);
     let first = body.first;
     let size = body.size;
-    let mut vector = Vector { uses: 0, writes: 0 };
+    let mut vector = Vector {
+        depends: 0,
+        changes: 0,
+    };
     let mut i = 0;
     while i < size {
         let line = line_of(text, tables, first, i);

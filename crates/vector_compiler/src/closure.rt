@@ -181,11 +181,14 @@ fn marked_body_vector(
     if 0 < mark_of(marks, node) {
         let direct = direct_of(text, tables, class, node, bodies);
         Vector {
-            uses: direct.uses,
-            writes: direct.writes,
+            depends: direct.depends,
+            changes: direct.changes,
         }
     } else {
-        Vector { uses: 0, writes: 0 }
+        Vector {
+            depends: 0,
+            changes: 0,
+        }
     }
 }
 
@@ -201,7 +204,10 @@ fn marked_vector(
     ensures { λ r. ⌜ Says (fieldsIn (now (text .entry)) (now (tables .entry)) class) (joinedModes (markedMode (now (text .entry)) (now (tables .entry)) class (now (marks .entry))) 512) r ⌝ }
     ensures { λ r. ⌜ Bodies (now (text .entry)) (now (tables .entry)) class (now (bodies .exit)) ⌝ }
 {
-    let mut vector = Vector { uses: 0, writes: 0 };
+    let mut vector = Vector {
+        depends: 0,
+        changes: 0,
+    };
     let mut node = 0;
     while node < NODES {
         let direct = marked_body_vector(text, tables, class, marks, node, bodies);

@@ -1,4 +1,4 @@
-// Writes the masks of every method into the tables: two of its transitive vector, and one of the methods that it commutes
+// Writes the masks of every method into the tables: three of its transitive vector, and one of the methods that it commutes
 // with.
 use super::closure::vector_of;
 use vector_direct::Vector;
@@ -11,13 +11,14 @@ ghost use Rattle.catalog.specs.View.{memberCount};
 ghost use Rattle.vector_compiler.specs.Ranks.{pairApart, rowApart};
 ghost use Rattle.vector_compiler.specs.Commuting.{modeMask, apart};
 ghost use Rattle.vector_compiler.specs.Filled.{Filled};
-ghost use Rattle.vector_compiler.specs.Filling.{withVector, stored, commutingMask, TwoTo, CommutingTo, ClassFilled};
+ghost use Rattle.vector_compiler.specs.Filling.{withVector, stored, commutingMask, ModesTo, CommutingTo, ClassFilled};
 
-// Table 1 of the paper: which modes of a field are compatible, by rank: Null, Read, Write.
-const COMPATIBLE: [[bool; 3]; 3] = [
-    [true, true, true],
-    [true, true, false],
-    [true, false, false],
+// Table 1 of the paper: which modes of a field are compatible, by rank: Null, Read, Add, Write.
+const COMPATIBLE: [[bool; 4]; 4] = [
+    [true, true, true, true],
+    [true, true, false, false],
+    [true, false, true, false],
+    [true, false, false, false],
 ];
 
 // The place of a method's mask.
@@ -27,16 +28,17 @@ fn mask_place(class: u32, row: u32, method: u32) -> usize
     layout::CLASSES_AT + (class as usize * layout::CLASS_WORDS + (row as usize + method as usize))
 }
 
-// The fields in the mode of a rank: neither used nor written, used and not written, written. A number that is no rank has none.
+// The fields in the mode of a rank, by whether it depends on them and whether it changes them. A number that is no rank has none.
 fn mode_mask(vector: Vector, rank: usize) -> u32
     ensures { λ r. ⌜ r ≡ modeMask vector rank ⌝ }
 {
-    let uses = vector.uses;
-    let writes = vector.writes;
+    let depends = vector.depends;
+    let changes = vector.changes;
     match rank {
-        0 => !(uses | writes),
-        1 => uses & !writes,
-        2 => writes,
+        0 => !(depends | changes),
+        1 => depends & !changes,
+        2 => changes & !depends,
+        3 => depends & changes,
         _ => 0,
     }
 }
@@ -82,12 +84,13 @@ fn commuting(a: Vector, b: Vector) -> bool
     true
 }
 
-// Stores the masks of Read and Write of a vector.
+// Stores the masks of Read, Write and Add of a vector.
 fn put_vector(tables: &mut [u32], class: u32, method: u32, vector: Vector)
     ensures { λ r. ⌜ now (tables .exit) ≡ withVector (now (tables .entry)) class method vector ⌝ }
 {
     let read = mode_mask(vector, 1);
-    let write = mode_mask(vector, 2);
+    let add = mode_mask(vector, 2);
+    let write = mode_mask(vector, 3);
     memory::put(
         tables,
         mask_place(class, layout::READ_MASKS_AT, method),
@@ -98,6 +101,7 @@ fn put_vector(tables: &mut [u32], class: u32, method: u32, vector: Vector)
         mask_place(class, layout::WRITE_MASKS_AT, method),
         write,
     );
+    memory::put(tables, mask_place(class, layout::ADD_MASKS_AT, method), add);
 }
 
 // The stored vector of a method.
@@ -106,9 +110,10 @@ fn stored_vector(tables: &[u32], class: u32, method: u32) -> Vector
 {
     let read = memory::get(tables, mask_place(class, layout::READ_MASKS_AT, method));
     let write = memory::get(tables, mask_place(class, layout::WRITE_MASKS_AT, method));
+    let add = memory::get(tables, mask_place(class, layout::ADD_MASKS_AT, method));
     Vector {
-        uses: read | write,
-        writes: write,
+        depends: read | write,
+        changes: write | add,
     }
 }
 
@@ -131,7 +136,7 @@ fn commuting_mask(tables: &[u32], class: u32, method: u32) -> u32
 // Stores the vectors of a class's methods.
 fn fill_masks(text: &[u8], tables: &mut [u32], class: u32)
     requires { ⌜ class < 16 ⌝ }
-    ensures { λ r. ⌜ TwoTo (now (text .entry)) (now (tables .entry)) class (memberCount (now (tables .entry)) class 1) (now (tables .exit)) ⌝ }
+    ensures { λ r. ⌜ ModesTo (now (text .entry)) (now (tables .entry)) class (memberCount (now (tables .entry)) class 1) (now (tables .exit)) ⌝ }
 {
     let count = catalog::member_count(tables, class, 1);
     let mut bodies = [0u32; 2560];

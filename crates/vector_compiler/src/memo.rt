@@ -7,12 +7,12 @@ ghost use mathlib.Core.Path.{_≡_};
 ghost use Rattle.vector_compiler.specs.Meeting.{callAt};
 ghost use Rattle.vector_compiler.specs.Memo.{Right, rowAt, withRow, Bodies, Callees};
 
-// What a method does by itself: the run of its statements, and the fields of the class that they use and write.
+// What a method does by itself: the run of its statements, and the fields of the class that they depend on and change.
 pub struct Direct {
     pub first: u32,
     pub size: u32,
-    pub uses: u32,
-    pub writes: u32,
+    pub depends: u32,
+    pub changes: u32,
 }
 
 // The same for a method by its number, found in the text.
@@ -24,8 +24,8 @@ fn found(text: &[u8], tables: &[u32], class: u32, node: u32) -> Direct
     Direct {
         first: body.first,
         size: body.size,
-        uses: vector.uses,
-        writes: vector.writes,
+        depends: vector.depends,
+        changes: vector.changes,
     }
 }
 
@@ -37,8 +37,8 @@ fn kept(bodies: &[u32], node: u32) -> Direct
     Direct {
         first: memory::get(bodies, at + 1),
         size: memory::get(bodies, at + 2),
-        uses: memory::get(bodies, at + 3),
-        writes: memory::get(bodies, at + 4),
+        depends: memory::get(bodies, at + 3),
+        changes: memory::get(bodies, at + 4),
     }
 }
 
@@ -50,8 +50,8 @@ fn keep(bodies: &mut [u32], node: u32, direct: Direct)
     memory::put(bodies, at, 1);
     memory::put(bodies, at + 1, direct.first);
     memory::put(bodies, at + 2, direct.size);
-    memory::put(bodies, at + 3, direct.uses);
-    memory::put(bodies, at + 4, direct.writes);
+    memory::put(bodies, at + 3, direct.depends);
+    memory::put(bodies, at + 4, direct.changes);
 }
 
 // What a method does by itself; found and kept where it is not kept yet.

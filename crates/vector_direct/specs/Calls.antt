@@ -11,7 +11,7 @@ use Rattle.model.specs.Form.{Action, Statement}
 use Rattle.model.specs.Library.{Library, classAt, memberPlace, among, classNumber}
 use Rattle.model.specs.Graph.{Node, callee}
 use Rattle.laws.specs.Lists.{same-sound}
-use Rattle.text_syntax.specs.Spelling.{ActionWords, sets, sends, sends-prefixed, replies, StatementWords, bare, guarded}
+use Rattle.text_syntax.specs.Spelling.{change-no-send, ActionWords, assigns, sends, sends-prefixed, replies, StatementWords, bare, guarded}
 use Rattle.text_syntax.specs.Expressions.{no-token, Taken, Walked, walked}
 
 -- A vertex's number: 32 for each class before its own, plus the place of its method there; 512 where there is no such method.
@@ -64,7 +64,7 @@ name-apart g n = go (same g (bytes "send")) refl
 module _ (l : Library) (c : ℕ) where
   action-calls : {ws : List (List ℕ)} {a : Action} → ActionWords ws a → calledBehind l c (behindSend ws) ≡ callee l c a
   unfolding behindSend same callee
-  action-calls (sets g ws e n q) = rw (name-apart g n) (ap (calledBehind l c) (behind ws e [] q))
+  action-calls (assigns how g ws e n q) = rw (change-no-send how, name-apart g n) (ap (calledBehind l c) (behind ws e [] q))
   action-calls (sends target m ws e h q) = ap (λ (ps : List Name). targetIn l c ps ∷ []) h
   action-calls (sends-prefixed target d m ws e h q) = ap (λ (ps : List Name). targetIn l c ps ∷ []) h
   action-calls (replies ws e q) = ap (calledBehind l c) (behind ws e [] q)

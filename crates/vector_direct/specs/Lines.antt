@@ -58,16 +58,16 @@ module _ (line : List ℕ) where
 
   -- The fields that its words mention are those of its statement's modes.
   pub line-says : (fields : List Name) (v : Vector) → isStatement (formOf (words line)) ≡ true
-      → v .uses ≡ mask (map (mentionsBehind (bytes "send") true (words line)) fields)
-      → v .writes ≡ mask (map (mentionsBehind (bytes "set") false (words line)) fields)
+      → v .depends ≡ mask (map (mentionsBehind (bytes "send") true (words line)) fields)
+      → v .changes ≡ mask (map (mentionsBehind (bytes "set") false (words line)) fields)
       → Says fields (λ f. inStatement f (statementOf line)) v
   line-says fields v e u w = record {
-    used = u ∙ mask-same _ (λ f. depends (inStatement f (statementOf line))) fields (λ f. mentioned depends-test f (spelling e));
-    written = w ∙ mask-same _ (λ f. changes (inStatement f (statementOf line))) fields (λ f. mentioned changes-test f (spelling e));
+    depend = u ∙ mask-same _ (λ f. depends (inStatement f (statementOf line))) fields (λ f. mentioned depends-test f (spelling e));
+    change = w ∙ mask-same _ (λ f. changes (inStatement f (statementOf line))) fields (λ f. mentioned changes-test f (spelling e));
   }
 
   pub line-idle : (fields : List Name) → isStatement (formOf (words line)) ≡ false
-      → Says fields (λ f. inStatement f (statementOf line)) (record { uses = 0; writes = 0 })
+      → Says fields (λ f. inStatement f (statementOf line)) (record { depends = 0; changes = 0 })
   unfolding inStatement inAction inExpression
   line-idle fields e = says-nothing fields (λ f. inStatement f (statementOf line)) (λ f. ap (inStatement f) (unsaid (formOf (words line)) e))
 

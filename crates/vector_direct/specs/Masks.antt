@@ -1,4 +1,4 @@
--- Masks of tests over a list, as the code makes them: a union, a difference, and one more bit at the top.
+-- Masks of tests over a list, as the code makes them: a union, an intersection, a difference, and one more bit at the top.
 use Prim.Native.Nat.{ℕ, zero, suc, _+_, _-_, _*_, _/_, _%_, _^_, min, max, _≤_, _<_}
 use mathlib.Core.Path.{_≡_, refl, sym, ap, ap₂, _∙_}
 use mathlib.Core.Bool.{Bool, true, false, not, _&&_, _||_}
@@ -74,6 +74,11 @@ module _ {A : Type 0} where
   unfolding mask
   mask-or p q [] = refl
   mask-or p q (x ∷ xs) = or-cons (mask (map p xs)) (mask (map q xs)) (p x) (q x) ∙ ap (λ (m : ℕ). m * 2 + digit (p x || q x)) (mask-or p q xs)
+
+  pub mask-and : (p q : A → Bool) (xs : List A) → bitAnd (mask (map p xs)) (mask (map q xs)) ≡ mask (map (λ x. p x && q x) xs)
+  unfolding mask
+  mask-and p q [] = refl
+  mask-and p q (x ∷ xs) = and-cons (mask (map p xs)) (mask (map q xs)) (p x) (q x) ∙ ap (λ (m : ℕ). m * 2 + digit (p x && q x)) (mask-and p q xs)
 
   -- The bits of one mask that are not in the other, among n bits.
   pub mask-without : (p q : A → Bool) (n : ℕ) (xs : List A) → length xs ≤ n

@@ -1,4 +1,4 @@
--- The fields that a line mentions, by its words, and that they are those which its statement uses and sets.
+-- The fields that a line mentions, by its words, and that they are those which its statement depends on and changes.
 use Prim.Native.Nat.{ℕ}
 use mathlib.Core.Path.{_≡_, refl, sym, ap, ap₂, subst, _∙_}
 use mathlib.Core.Bool.{Bool, true, false, not, cond, _&&_, _||_, and-true, and-false, or-false, or-assoc, true≢false}
@@ -6,18 +6,18 @@ use mathlib.Core.List.{List, [], _∷_}
 use Rattle.model.specs.Base.{bytes, same}
 use Rattle.model.specs.Word.{Name, isName}
 use Rattle.model.specs.Expression.{Operator, Expression, number, field, argument, got, apply, Token, operator, leaf, neither, tokenOf, parsed, expression}
-use Rattle.model.specs.Form.{Action, Statement}
-use Rattle.model.specs.Mode.{Mode, Null, Read, Write, depends, changes, join}
-use Rattle.model.specs.Vector.{mention, inExpression, inAction, inStatement}
+use Rattle.model.specs.Form.{Change, replace, increase, Action, Statement}
+use Rattle.model.specs.Mode.{Mode, Null, Read, Add, Write, depends, changes, join}
+use Rattle.model.specs.Vector.{mention, modeOf, inExpression, inAction, inStatement}
 use Rattle.laws.specs.Lists.{same-sound}
 use Rattle.laws.specs.Modes.{depends-join, changes-join}
 use Rattle.text_lex.specs.Piece.{first, others}
-use Rattle.text_syntax.specs.Spelling.{ActionWords, sets, sends, sends-prefixed, replies, StatementWords, bare, guarded}
+use Rattle.text_syntax.specs.Spelling.{changeWord, change-no-name, ActionWords, assigns, sends, sends-prefixed, replies, StatementWords, bare, guarded}
 use Rattle.text_syntax.specs.Expressions.{Named, named, IsToken, no-token, Taken, Walked, walked}
 
--- Whether the word after this one counts: as usual, and the opposite after the keyword.
+-- Whether the word after this one counts: as usual, and the opposite after the keyword and after `add`.
 abbrev pub counts : List ℕ → Bool → List ℕ → Bool
-counts keyword usual w = cond (same w keyword) (not usual) usual
+counts keyword usual w = cond (same w keyword || same w (bytes "add")) (not usual) usual
 
 -- Whether some word that counts is the name f; `on` tells whether the first word counts.
 unfoldable pub mentions : List ℕ → Bool → Name → Bool → List (List ℕ) → Bool
@@ -29,32 +29,33 @@ mentions keyword usual f on (w ∷ ws) = (on && isName w && same f w) || mention
 abbrev pub mentionsBehind : List ℕ → Bool → List (List ℕ) → Name → Bool
 mentionsBehind keyword usual ws f = mentions keyword usual f (counts keyword usual (first ws)) (others ws)
 
--- A test of modes, and the words that decide it: a name counts as usual, but never after `send`, and always after `set`.
+-- A test of modes, and the words that decide it: a name counts as usual, but never after `send`, and after `set` and `add` as the
+-- test answers for Write and Add.
 pub record Test (p : Mode → Bool) (keyword : List ℕ) (usual : Bool) : Type 0 where
   pub null : p Null ≡ false
   pub read : p Read ≡ usual
-  pub write : p Write ≡ true
   pub joined : (a b : Mode) → p (join a b) ≡ p a || p b
   pub no-name : isName keyword ≡ false
   pub no-word : tokenOf keyword ≡ neither
-  pub set : counts keyword usual (bytes "set") ≡ true
+  pub set : counts keyword usual (bytes "set") ≡ p Write
+  pub add : counts keyword usual (bytes "add") ≡ p Add
   pub send : counts keyword usual (bytes "send") ≡ false
   pub reply : counts keyword usual (bytes "reply") ≡ usual
   pub guard : counts keyword usual (bytes "when") ≡ usual
   pub to : counts keyword usual (bytes "to") ≡ usual
   pub self : counts keyword usual (bytes "self") ≡ usual
 
--- A field is used where it is named, except after `send`.
+-- A field is depended on where it is named, except after `send` and `add`.
 pub depends-test : Test depends (bytes "send") true
 unfolding same isName tokenOf
 depends-test = record {
   null = refl;
   read = refl;
-  write = refl;
   joined = depends-join;
   no-name = refl;
   no-word = refl;
   set = refl;
+  add = refl;
   send = refl;
   reply = refl;
   guard = refl;
@@ -62,17 +63,17 @@ depends-test = record {
   self = refl;
 }
 
--- A field is set where it follows `set`.
+-- A field is changed where it follows `set` or `add`.
 pub changes-test : Test changes (bytes "set") false
 unfolding same isName tokenOf
 changes-test = record {
   null = refl;
   read = refl;
-  write = refl;
   joined = changes-join;
   no-name = refl;
   no-word = refl;
   set = refl;
+  add = refl;
   send = refl;
   reply = refl;
   guard = refl;
@@ -96,16 +97,17 @@ module _ {p : Mode → Bool} {keyword : List ℕ} {usual : Bool} (test : Test p 
   chosen m true = sym (and-true (p m))
   chosen m false = test .null ∙ sym (and-false (p m))
 
-  -- After a word that is not the keyword, words count as usual.
-  as-usual : (w : List ℕ) (ws : List (List ℕ)) → same w keyword ≡ false → at (counts keyword usual w) ws ≡ at usual ws
+  -- After a word that is neither the keyword nor `add`, words count as usual.
+  as-usual : (w : List ℕ) (ws : List (List ℕ)) → same w keyword || same w (bytes "add") ≡ false → at (counts keyword usual w) ws ≡ at usual ws
   as-usual w ws e = ap (λ (b : Bool). at (cond b (not usual) usual) ws) e
 
-  nothing : (e : Expression) (w : List ℕ) (ws : List (List ℕ)) → inExpression f e ≡ Null → isName w ≡ false → same w keyword ≡ false
+  nothing : (e : Expression) (w : List ℕ) (ws : List (List ℕ)) → inExpression f e ≡ Null → isName w ≡ false → same w keyword || same w (bytes "add") ≡ false
       → at usual (w ∷ ws) ≡ found e (at usual ws)
   nothing e w ws h n k = pass usual w ws n ∙ as-usual w ws k ∙ sym (ap (λ (m : Mode). p m || at usual ws) h ∙ ap (λ (b : Bool). b || at usual ws) (test .null))
 
-  apart : (w : List ℕ) (t : Token) → tokenOf w ≡ t → IsToken t → same w keyword ≡ false
-  apart = no-token keyword (test .no-word)
+  apart : (w : List ℕ) (t : Token) → tokenOf w ≡ t → IsToken t → same w keyword || same w (bytes "add") ≡ false
+  unfolding tokenOf
+  apart w t e h = ap₂ _||_ (no-token keyword (test .no-word) w t e h) (no-token (bytes "add") refl w t e h)
 
   taken : (w : List ℕ) (t : Token) → tokenOf w ≡ t → Named w t → Taken (at usual) found w t
   unfolding mentions inExpression
@@ -133,11 +135,11 @@ module _ {p : Mode → Bool} {keyword : List ℕ} {usual : Bool} (test : Test p 
   unfolding mentions
   alone ws e q = behind ws e [] q ∙ or-false (p (inExpression f e))
 
-  name-apart : (g : Name) → isName g ≡ true → same g keyword ≡ false
-  name-apart g n = go (same g keyword) refl
+  name-apart : (g k : List ℕ) → isName g ≡ true → isName k ≡ false → same g k ≡ false
+  name-apart g k n h = go (same g k) refl
     where
-      go : (b : Bool) → same g keyword ≡ b → same g keyword ≡ false
-      go true r = absurd (true≢false (sym n ∙ ap isName (same-sound g keyword r) ∙ test .no-name))
+      go : (b : Bool) → same g k ≡ b → same g k ≡ false
+      go true r = absurd (true≢false (sym n ∙ ap isName (same-sound g k r) ∙ h))
       go false r = r
 
   -- An action begins with a word that is not a name, so it does not matter whether that word counts.
@@ -154,15 +156,21 @@ module _ {p : Mode → Bool} {keyword : List ℕ} {usual : Bool} (test : Test p 
       ∙ ap (λ (b : Bool). at b ws) (test .self)
       ∙ alone ws e q
 
+  -- After the keyword of a change a name counts as the test answers for the change's mode.
+  after-change : (how : Change) → counts keyword usual (changeWord how) ≡ p (modeOf how)
+  after-change replace = test .set
+  after-change increase = test .add
+
   action-mentions : (on : Bool) {ws : List (List ℕ)} {a : Action} → ActionWords ws a → at on ws ≡ p (inAction f a)
   unfolding mentions inAction isName
-  action-mentions on (sets g ws e n q) =
-      pass on (bytes "set") (g ∷ ws) refl
-      ∙ ap (λ (b : Bool). at b (g ∷ ws)) (test .set)
+  action-mentions on (assigns how g ws e n q) =
+      let m = modeOf how in
+      pass on (changeWord how) (g ∷ ws) (change-no-name how)
+      ∙ ap (λ (b : Bool). at b (g ∷ ws)) (after-change how)
       ∙ ap₂ _||_
-      (ap (λ (b : Bool). b && same f g) (n ∙ sym (test .write)) ∙ sym (chosen Write (same f g)))
-      (as-usual g ws (name-apart g n) ∙ alone ws e q)
-      ∙ sym (test .joined (mention Write f g) (inExpression f e))
+      (ap (λ (b : Bool). p m && b && same f g) n ∙ ap (λ (b : Bool). b && same f g) (and-true (p m)) ∙ sym (chosen m (same f g)))
+      (as-usual g ws (ap₂ _||_ (name-apart g keyword n (test .no-name)) (name-apart g (bytes "add") n refl)) ∙ alone ws e q)
+      ∙ sym (test .joined (mention m f g) (inExpression f e))
   action-mentions on (sends target m ws e h q) = sent on target ws e q
   action-mentions on (sends-prefixed target c m ws e h q) = sent on target ws e q
   action-mentions on (replies ws e q) =
@@ -181,7 +189,7 @@ module _ {p : Mode → Bool} {keyword : List ℕ} {usual : Bool} (test : Test p 
   -- No statement begins with a name.
   first-word : {ws : List (List ℕ)} {s : Statement} → StatementWords ws s → at usual ws ≡ mentionsBehind keyword usual ws f
   unfolding isName
-  first-word (bare (sets g ws e n q)) = pass usual (bytes "set") (g ∷ ws) refl
+  first-word (bare (assigns how g ws e n q)) = pass usual (changeWord how) (g ∷ ws) (change-no-name how)
   first-word (bare (sends target m ws e h q)) = pass usual (bytes "send") (target ∷ bytes "to" ∷ bytes "self" ∷ ws) refl
   first-word (bare (sends-prefixed target c m ws e h q)) = pass usual (bytes "send") (target ∷ bytes "to" ∷ bytes "self" ∷ ws) refl
   first-word (bare (replies ws e q)) = pass usual (bytes "reply") ws refl

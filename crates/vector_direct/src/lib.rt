@@ -1,5 +1,5 @@
-// What one line of a text reads, writes and calls (01, "Vectors and commuting"): the masks of the fields that its statement
-// uses and sets, and the number of the method that it calls on its own object.
+// What one line of a text does to fields and calls (01, "Vectors and commuting"): the masks of the fields that its statement
+// depends on and of those that it changes, and the number of the method that it calls on its own object.
 ghost use Prim.Native.Nat.{_*_, _%_, _^_};
 ghost use mathlib.Core.Path.{_≡_};
 ghost use mathlib.Core.Bool.{_&&_};
@@ -25,10 +25,10 @@ const NONE: u32 = 512;
 
 const POINT: u8 = 46;
 
-// The fields that are used (read or written), and those that are written: bit k is field k.
+// The fields that a run depends on, and those that it changes: bit k is field k.
 pub struct Vector {
-    pub uses: u32,
-    pub writes: u32,
+    pub depends: u32,
+    pub changes: u32,
 }
 
 // The union of two vectors.
@@ -36,8 +36,8 @@ pub fn joined(a: Vector, b: Vector) -> Vector
     ensures { λ r. ⌜ r ≡ joinedVector a b ⌝ }
 {
     Vector {
-        uses: a.uses | b.uses,
-        writes: a.writes | b.writes,
+        depends: a.depends | b.depends,
+        changes: a.changes | b.changes,
     }
 }
 
@@ -82,11 +82,11 @@ fn counted_mask(text: &[u8], tables: &[u32], class: u32, word: &[u8], on: bool) 
     }
 }
 
-// Whether the word after this one counts: as usual, and the opposite after the keyword.
+// Whether the word after this one counts: as usual, and the opposite after the keyword and after `add`.
 fn counts(word: &[u8], keyword: &[u8], usual: bool) -> bool
     ensures { λ r. ⌜ r ≡ counts (now (keyword .entry)) usual (now (word .entry)) ⌝ }
 {
-    if text_lex::same(word, keyword) {
+    if text_lex::same(word, keyword) | text_lex::same(word, b"add") {
         !usual
     } else {
         usual
@@ -138,11 +138,14 @@ pub fn line_vector(text: &[u8], tables: &[u32], class: u32, line: &[u8]) -> Vect
 {
     if is_statement(line) {
         Vector {
-            uses: mentioned(text, tables, class, line, b"send", true),
-            writes: mentioned(text, tables, class, line, b"set", false),
+            depends: mentioned(text, tables, class, line, b"send", true),
+            changes: mentioned(text, tables, class, line, b"set", false),
         }
     } else {
-        Vector { uses: 0, writes: 0 }
+        Vector {
+            depends: 0,
+            changes: 0,
+        }
     }
 }
 

@@ -4,11 +4,13 @@
 //!   benchmark [TRANSACTIONS BERKELEY SQLITE]
 //!   benchmark peers TRANSACTIONS BERKELEY SQLITE   the last of the tables alone
 //!   benchmark rehearse       the table of `rehearse` alone
+//!   benchmark tallies        the tables of `add` beside `set` alone
 //!   benchmark profile        makes some of each call once, for callgrind
 //!   benchmark transactions   makes 100 transactions of a send to an object, for callgrind
 
 mod clock;
 mod rehearsal;
+mod tallies;
 mod texts;
 
 use clock::{both, each, shown, Time};
@@ -173,12 +175,14 @@ fn main() {
         ["transactions"] => return transactions(EMPTY),
         ["peers", transactions, berkeley, sqlite] => return peers(transactions, berkeley, sqlite),
         ["rehearse"] => return rehearsal::table(),
+        ["tallies"] => return tallies::table(),
         _ => {}
     }
     let samples = texts::samples();
     println!("| what | on | ours | second | ratio |\n|---|---|---|---|---|");
     reading(&samples);
     machine(&samples);
+    tallies::table();
     spread();
     growth();
     rehearsal::table();

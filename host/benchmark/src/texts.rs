@@ -31,10 +31,12 @@ pub fn samples() -> Vec<(String, Vec<u8>)> {
 
 /// Texts whose method 0 makes a long message.
 pub fn messages() -> Vec<(String, Vec<u8>)> {
+    let adds = "add x * arg 3\n".repeat(31);
     let sets = "set x + x * arg 3\n".repeat(31);
     let deep = "set x + + x * arg 3 - - got 7 * = x y < y arg\n".repeat(31);
-    let text = |sets: &str| format!("class a\nfield x\nfield y\nmethod m\n{sets}reply x\nend\nobject o a\n").into_bytes();
+    let text = |body: &str| format!("class a\nfield x\nfield y\nmethod m\n{body}reply x\nend\nobject o a\n").into_bytes();
     vec![
+        ("short adds".into(), text(&adds)),
         ("short sets".into(), text(&sets)),
         ("long sets".into(), text(&deep)),
         ("sets and calls".into(), limits::message_of(1_023)),

@@ -1,9 +1,10 @@
 //! The proved library's machine, as a machine that is compared: on guarded memory, and by the wrapper's `Machine`.
 
 use crate::guard::Guarded;
-use crate::machine::Machine;
+use crate::machine::{Counts, List, Machine, Note, Slot};
 use generate::Random;
 use reference::machine::{Answer, Target};
+use wrapper::layout::{MARKS_AT, NOTES_AT, PHASE_AT, ROW_WORDS, SET_MARKS_AT, TABLE_WORDS};
 use wrapper::machine::lent::{self, Outcome};
 use wrapper::machine::{NotStarted, Refusal, Sent, Step, STATE_WORDS};
 
@@ -56,7 +57,31 @@ impl Lent {
     }
 }
 
+/// Starts the library's machine on a text and makes a list of calls beside the second implementation.
+pub fn beside(text: &[u8], values: &[u32], random: &mut Random, make: impl FnOnce(List, &mut Random) -> Counts) -> Counts {
+    let library = reference::read(text).expect("an accepted text");
+    let mut machine = Lent::start(random, text, values).expect("a start");
+    make(List::new(&library, values, &mut machine), random)
+}
+
+/// What a row says of its slot, on so many values. A closed slot's is all zero.
+fn slot(row: &[u32], values: usize) -> Slot {
+    let phase = row[PHASE_AT];
+    assert!(phase != 0 || row.iter().all(|&word| word == 0), "the row of a closed slot holds something");
+    let bit = |at: usize, k: usize| row[at + k / 32] >> (k % 32) & 1 == 1;
+    let note = |k: usize| if bit(SET_MARKS_AT, k) { Note::Old(row[NOTES_AT + k]) } else { Note::Added(row[NOTES_AT + k]) };
+    for k in 0..values {
+        assert!(bit(MARKS_AT, k) || note(k) == Note::Added(0), "value {k} has a note and no mark");
+    }
+    Slot { phase, notes: (0..values).filter(|&k| bit(MARKS_AT, k)).map(|k| (k, note(k))).collect() }
+}
+
 impl Machine for Lent {
+    fn slots(&self) -> Option<Vec<Slot>> {
+        let (rows, values) = (&self.state.contents()[TABLE_WORDS..], self.values.contents().len());
+        Some(rows.chunks(ROW_WORDS).take(8).map(|row| slot(row, values)).collect())
+    }
+
     fn send(&mut self, slot: u32, to: Target, method: u32, argument: u32) -> Answer {
         answer(lent::send(self.text.contents(), self.state.lent(), self.values.contents(), slot, target(to), method, argument))
     }

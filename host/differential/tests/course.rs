@@ -1,25 +1,33 @@
-//! What docs/COURSE.md shows is what the programs print: its two boards, and each of its blocks named `printed` or `tables`, which
+//! What docs/COURSE.md shows is what the programs print: its three boards, and each of its blocks named `printed` or `tables`, which
 //! belong to the blocks named `lib` and `calls` above them.
 
 use differential::rehearsal::{printed, Lib};
+use std::ops::Range;
 
 const PAGE: &str = include_str!("../../../docs/COURSE.md");
 const SAMPLE: &str = include_str!("../../../samples/lanes.txt");
 const LEFT: &str = include_str!("../../../samples/left-board.calls");
 const RIGHT: &str = include_str!("../../../samples/right-board.calls");
+const TALLY: &str = include_str!("../../../samples/tally.txt");
+const TALLY_BOARD: &str = include_str!("../../../samples/tally-board.calls");
 
 /// The first thing in backquotes of a cell, as a line.
 fn quoted(cell: &str) -> Option<String> {
     cell.split('`').nth(1).map(|found| format!("{found}\n"))
 }
 
-/// A board of the page, its call lines and what is printed: two cells of each row are its tablets', the third is printed.
-fn board(first: usize) -> (String, String) {
-    let rows = PAGE.lines().filter(|line| line.starts_with("| ")).map(|line| line.split('|').map(str::trim).collect::<Vec<_>>());
+/// The rows of the page's tables that have so many cells, the empty ones at both ends counted.
+fn rows(cells: usize) -> impl Iterator<Item = Vec<&'static str>> {
+    let all = PAGE.lines().filter(|line| line.starts_with("| ")).map(|line| line.split('|').map(str::trim).collect::<Vec<_>>());
+    all.filter(move |row| row.len() == cells)
+}
+
+/// A board of the page, its call lines and what is printed: some cells of each row are its tablets', the next is printed.
+fn board(cells: usize, tablets: Range<usize>) -> (String, String) {
     let (mut calls, mut printed) = (String::new(), String::new());
-    for cells in rows.filter(|cells| cells.len() == 9) {
-        calls.extend([first, first + 1].into_iter().filter_map(|k| quoted(cells[k])));
-        printed.extend(quoted(cells[first + 2]));
+    for row in rows(cells) {
+        calls.extend(row[tablets.clone()].iter().filter_map(|cell| quoted(cell)));
+        printed.extend(quoted(row[tablets.end]));
     }
     (calls, printed)
 }
@@ -36,9 +44,24 @@ fn tables(lib: &str) -> String {
 
 #[test]
 fn boards() {
-    for (first, calls) in [(2, LEFT), (5, RIGHT)] {
-        assert_eq!(board(first), (calls.into(), rehearsed(SAMPLE, calls)));
+    for (cells, tablets, lib, calls) in [(9, 2..4, SAMPLE, LEFT), (9, 5..7, SAMPLE, RIGHT), (8, 2..5, TALLY, TALLY_BOARD)] {
+        assert_eq!(board(cells, tablets), (calls.into(), rehearsed(lib, calls)));
     }
+    assert!(PAGE.contains(&format!("```lib\n{TALLY}```")), "the page shows another text than samples/tally.txt");
+}
+
+/// The last column of the tallies' board is the total after each call.
+#[test]
+fn totals() {
+    let mut values = [0];
+    let mut machine = wrapper::machine::Machine::start(TALLY.as_bytes(), &mut values).unwrap();
+    let library = reference::read(TALLY.as_bytes()).unwrap();
+    let shown: Vec<u32> = rows(8).filter_map(|row| row[6].parse().ok()).collect();
+    let total = |line: &str| {
+        differential::machine::make(&mut machine, reference::lines::call(&library, line.as_bytes()).unwrap());
+        machine.values()[0]
+    };
+    assert_eq!(TALLY_BOARD.lines().map(total).collect::<Vec<_>>(), shown);
 }
 
 #[test]
@@ -55,5 +78,5 @@ fn blocks() {
         }
         compared += ["printed", "tables"].contains(&name) as u32;
     }
-    assert_eq!(compared, 4);
+    assert_eq!(compared, 5);
 }

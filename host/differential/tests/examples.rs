@@ -1,4 +1,5 @@
-//! The examples of document 01 without a star, on the library and on the second implementation.
+//! The examples of document 01 without a star, and forms with `add` (document 02, Ticket 6), on the library and on the second
+//! implementation.
 
 use generate::limits::of_length;
 
@@ -50,6 +51,11 @@ fn forms_and_names() {
     let body = |line: &str| format!("class a\nfield x\nmethod m\n{line}\nend\n");
     for (line, right) in [
         ("class level", (12, 1)),
+        ("class add", (12, 1)),
+        ("class a\nfield add", (12, 2)),
+        ("class a\nmethod add\nend", (12, 2)),
+        ("class a\nobject add a", (12, 2)),
+        ("class a\nfield x\nadd x 1", (12, 3)),
         ("class  a", (12, 1)),
         ("class a :", (12, 1)),
         ("class a : b b", (13, 1)),
@@ -67,7 +73,28 @@ fn forms_and_names() {
         verdict(format!("{line}\n").as_bytes(), right);
     }
     for (line, right) in [
-        ("add x 1", (12, 4)),
+        ("add x 1", (0, 0)),
+        ("add x x", (0, 0)),
+        ("when x add x + arg got", (0, 0)),
+        ("add y 1", (14, 4)),
+        ("add x y", (14, 4)),
+        ("when y add x 1", (14, 4)),
+        ("add m 1", (14, 4)),
+        ("add", (12, 4)),
+        ("add x", (12, 4)),
+        ("add x ", (12, 4)),
+        ("add  x 1", (12, 4)),
+        ("add 1 1", (12, 4)),
+        ("add x 1 1", (12, 4)),
+        ("add x + 1", (12, 4)),
+        ("add add 1", (12, 4)),
+        ("add set 1", (12, 4)),
+        ("add arg 1", (12, 4)),
+        ("add x add", (12, 4)),
+        ("add x 1 when 1", (12, 4)),
+        ("adds x 1", (12, 4)),
+        ("ad x 1", (12, 4)),
+        ("ADD x 1", (12, 4)),
         ("when x when x reply 1", (12, 4)),
         ("when x", (12, 4)),
         ("reply 4294967295", (0, 0)),
@@ -85,18 +112,33 @@ fn forms_and_names() {
     verdict(b"class a", (12, 1));
 }
 
-/// The text of "What `tables` prints": what is printed, and the image's pairs.
-#[test]
-fn sample() {
-    let text = include_bytes!("../../../samples/lanes.txt");
-    let right = "run shot WN ny\nrun plot NR yy\nlane shot WNW nyn\nlane plot NRN yyy\nlane tune NNW nyn\n";
+/// The image that both must give: its length and its pairs.
+fn pairs(text: &[u8], length: usize, pairs: [u32; 8]) {
+    let mut image = [0xff; 200];
+    assert_eq!(wrapper::compile(text, &mut image), Ok(length));
+    let pairs: Vec<u8> = pairs.iter().flat_map(|n| n.to_le_bytes()).collect();
+    assert_eq!(image[..32], pairs);
+    assert_eq!(reference::image::image(text).unwrap(), image[..length]);
+    assert!(image[length..].iter().all(|&byte| byte == 0xff), "bytes past the image are altered");
+}
+
+/// What both must print.
+fn printed(text: &[u8], right: &str) {
     let mut out = [0; 200];
     let size = wrapper::print_tables(text, &mut out).unwrap();
     assert_eq!(&out[..size], right.as_bytes());
     assert_eq!(reference::image::tables(text), right);
-    let mut image = [0; 200];
-    assert_eq!(wrapper::compile(text, &mut image), Ok(124));
-    let pairs: Vec<u8> = [24u32, 40, 64, 40, 104, 20].iter().flat_map(|n| n.to_le_bytes()).collect();
-    assert_eq!(image[..24], pairs);
-    assert_eq!(reference::image::image(text).unwrap(), image[..124]);
+}
+
+/// The text of "What `tables` prints", the empty text, and the sample with a tally: what is printed, and the image's pairs.
+#[test]
+fn samples() {
+    let text = include_bytes!("../../../samples/lanes.txt");
+    printed(text, "run shot WN ny\nrun plot NR yy\nlane shot WNW nyn\nlane plot NRN yyy\nlane tune NNW nyn\n");
+    pairs(text, 152, [32, 40, 72, 40, 112, 20, 132, 20]);
+    printed(b"", "");
+    pairs(b"", 32, [32, 0, 32, 0, 32, 0, 32, 0]);
+    let text = include_bytes!("../../../samples/tally.txt");
+    printed(text, "lane tally A ynn\nlane plot R nyn\nlane clear W nnn\n");
+    pairs(text, 104, [32, 24, 56, 24, 80, 12, 92, 12]);
 }

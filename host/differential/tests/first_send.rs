@@ -3,7 +3,7 @@
 
 use differential::altered::Memory;
 use differential::library::Lent;
-use differential::machine::{Counts, List};
+use differential::machine::{added_up, Counts, List};
 use differential::{amount, each_seed};
 use generate::calls::{text_to_call, values_for, Caller};
 use generate::Random;
@@ -161,10 +161,7 @@ fn crowded(seed: u64) -> Counts {
 #[test]
 fn crowded_lists() {
     let count = amount("CISHMOLAQ_LISTS", 2_000);
-    let mut calls = Counts::new();
-    for (kind, times) in each_seed(count, crowded).into_iter().flatten() {
-        *calls.entry(kind).or_insert(0) += times;
-    }
+    let calls = added_up(each_seed(count, crowded));
     println!("{count} crowded lists: {calls:?}");
     if count < 1_000 {
         return;

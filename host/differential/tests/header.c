@@ -5,7 +5,7 @@
 
 static const char *const good =
     "class run\nfield cycles\nfield clusters\nmethod shot\nset cycles + cycles 1\nend\nmethod plot\nreply clusters\nend\n"
-    "object run1 run 7\n";
+    "method tally\nadd clusters arg\nend\nobject run1 run 7\n";
 static const char *const bad = "class run\nclass run\n";
 
 _Static_assert(CISHMOLAQ_STATE_WORDS == STATE_WORDS && CISHMOLAQ_MOST_VALUES == MOST_VALUES, "the layout's sizes");
@@ -52,6 +52,26 @@ static void machine(void) {
     }
 }
 
+/* Two slots add to one field side by side, a third that reads it clashes; one is aborted, and the other's addition stays. */
+static void tallies(void) {
+    uint32_t values[2] = {7, 1};
+    uint32_t detail = 99;
+    size_t line = 99;
+    cishmolaq_start(TEXT(good), values, 2, state, CISHMOLAQ_STATE_WORDS, &line);
+    for (uint32_t slot = 0; slot < 2; slot++) {
+        uint32_t number = cishmolaq_send(LENT, slot, CISHMOLAQ_OBJECT, 0, 2, slot == 0 ? UINT32_MAX : 10, &detail);
+        printf("send %u %u\n", number, detail);
+    }
+    for (uint32_t slot = 0; slot < 2; slot++) {
+        uint32_t number = cishmolaq_step(LENT, slot, &detail);
+        printf("step %u %u: %u %u\n", number, detail, values[0], values[1]);
+    }
+    uint32_t number = cishmolaq_send(LENT, 2, CISHMOLAQ_OBJECT, 0, 1, 0, &detail);
+    printf("send %u %u\n", number, detail);
+    number = cishmolaq_abort(LENT, 0, &detail);
+    printf("abort %u %u: %u %u\n", number, detail, values[0], values[1]);
+}
+
 int main(void) {
     uint8_t image[CISHMOLAQ_LONGEST_IMAGE];
     uint8_t lines[CISHMOLAQ_LONGEST_TABLES];
@@ -67,7 +87,7 @@ int main(void) {
     printf("compile %u %zu\n", number, detail);
     size_t place = cishmolaq_statement(TEXT(good), 1, &detail);
     printf("statement %zu %zu %.*s\n", place, detail, (int)detail, good + place);
-    number = cishmolaq_statement_fault(TEXT(good), 2, &detail);
+    number = cishmolaq_statement_fault(TEXT(good), 3, &detail);
     printf("statement_fault %u %zu\n", number, detail);
     number = cishmolaq_starting_values(TEXT(good), values, 2, &detail);
     printf("starting_values %u %zu: %u %u\n", number, detail, values[0], values[1]);
@@ -78,5 +98,6 @@ int main(void) {
     number = cishmolaq_print_tables(TEXT(bad), lines, 12, &detail);
     printf("tables %u %zu\n", number, detail);
     machine();
+    tallies();
     return 0;
 }

@@ -7,15 +7,16 @@ use wrapper::machine::{Machine, Step, Target};
 
 const RIGHT: &str = "check 0 0
 check 13 2
-compile 0 64 24
+compile 0 104 32
 compile 21 0
 statement 88 14 reply clusters
 statement_fault 23 0
 starting_values 0 0: 7 0
 starting_values 22 0
-tables 0 30
-run shot WN ny
-run plot NR yy
+tables 0 49
+run shot WN nyy
+run plot NR yyn
+run tally NA yny
 tables 21 0
 start 22 0
 start 0 0
@@ -31,6 +32,12 @@ step 2 0: 8 0
 commit 34 0
 abort 0 0: 7 0
 abort 32 0: 7 0
+send 0 0
+send 0 0
+step 1 0: 7 0
+step 1 0: 7 10
+send 40 0
+abort 0 0: 7 11
 ";
 
 fn run(command: &mut Command) -> String {
@@ -56,8 +63,9 @@ fn a_c_program() {
 /// Every function on texts that ask for much, in threads whose whole stack is 96 KiB and what a Rust thread itself takes.
 #[test]
 fn in_96_kib_of_stack() {
-    let deep = limits::limits().into_iter().find(|l| l.name == "operators on each path").unwrap().at;
-    for text in [deep, limits::widest(), limits::most_statements(), limits::activations(8), limits::of_length(32_768)] {
+    let mut texts = vec![limits::widest(), limits::most_statements(), limits::activations(8), limits::of_length(32_768), limits::most_tallies()];
+    texts.extend(limits::limits().into_iter().filter(|l| l.name.starts_with("operators on each path")).map(|l| l.at));
+    for text in texts {
         let mut values = reference::read(&text).unwrap().starting_values();
         let (mut image, mut lines) = (vec![0; wrapper::LONGEST_IMAGE], vec![0; wrapper::LONGEST_TABLES]);
         let work = || {

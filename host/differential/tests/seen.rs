@@ -1,12 +1,14 @@
 //! The comparison sees machines that are wrong: each fault that a reviewer of documents 01 and 02 tries, put around the second
-//! implementation. Ticket 4 by itself, with nothing to compare with, sees machines that demand 3 does not.
+//! implementation. Ticket 4 by itself, with nothing to compare with, sees machines that demand 3 does not; and it sees additions that are
+//! undone wrongly (Ticket 6).
 
 use differential::machine::{make, Copied, List, Machine, ORDERS};
 use generate::calls::{text_to_call, values_for, Caller};
-use generate::Random;
+use generate::{tally, Random};
 use reference::course::{alone, Course};
-use reference::machine::{message, Answer, Call, Message, Target};
+use reference::machine::{message, Answer, Call, Change, Message, Target};
 use reference::text::Library;
+use std::collections::HashMap;
 
 type Second<'a> = reference::machine::Machine<'a>;
 
@@ -262,9 +264,105 @@ impl Machine for Late<'_> {
     }
 }
 
+/// Wrong ways to undo what was added.
+#[derive(Clone, Copy, Debug, PartialEq)]
+enum Undoes {
+    /// Each field gets the value before the transaction's first change: what others added meanwhile is lost.
+    ToTheFirstValue,
+    /// What was added is left there.
+    NoAddition,
+    /// A field that was set gets the value right before that: what was added until then is left there.
+    ToTheFirstSet,
+    /// From a field that was set what was added afterwards is taken too.
+    AdditionsAfterTheSet,
+}
+
+/// The changes that a transaction made to a field, by the object and the field's name.
+type Changes = Vec<((usize, String), Vec<Change>)>;
+
+#[derive(Clone)]
+struct Undoer<'a> {
+    machine: Second<'a>,
+    undoes: Undoes,
+    /// The values before each slot's first change, by the object and the field's name.
+    first: [HashMap<(usize, String), u32>; 8],
+}
+
+impl Undoer<'_> {
+    fn changes(&self, slot: u32) -> Changes {
+        let known = slot < 8;
+        (0..8).filter(|&s| known && s == slot).flat_map(|s| self.machine.changes(s)).map(|(f, c)| (f.clone(), c.clone())).collect()
+    }
+
+    /// Alters the fields after these changes were undone; the fields were these before.
+    fn spoil(&mut self, slot: u32, changes: Changes, before: &[std::collections::BTreeMap<String, u32>]) {
+        for (field, changes) in changes {
+            let (object, name) = &field;
+            let set = changes.iter().position(|change| matches!(change, Change::Set(_)));
+            let value = self.machine.fields[*object].get_mut(name).unwrap();
+            let added = |change: &Change| if let Change::Add(more) = change { *more } else { 0 };
+            match (self.undoes, set) {
+                (Undoes::ToTheFirstValue, _) => *value = self.first[slot as usize][&field],
+                (Undoes::NoAddition, None) => *value = before[*object][name],
+                (Undoes::ToTheFirstSet, Some(at)) => *value = changes[..at].iter().map(added).fold(*value, u32::wrapping_add),
+                (Undoes::AdditionsAfterTheSet, Some(at)) => *value = changes[at..].iter().map(added).fold(*value, u32::wrapping_sub),
+                _ => {}
+            }
+        }
+    }
+}
+
+impl Machine for Undoer<'_> {
+    fn send(&mut self, slot: u32, target: Target, method: u32, argument: u32) -> Answer {
+        Machine::send(&mut self.machine, slot, target, method, argument)
+    }
+
+    fn step(&mut self, slot: u32) -> Answer {
+        let (changes, before) = (self.changes(slot), self.machine.fields.clone());
+        let answer = Machine::step(&mut self.machine, slot);
+        for ((object, name), _) in self.changes(slot) {
+            let value = before[object][&name];
+            self.first[slot as usize].entry((object, name)).or_insert(value);
+        }
+        if answer == Answer::Stopped {
+            self.spoil(slot, changes, &before);
+            self.first[slot as usize].clear();
+        }
+        answer
+    }
+
+    fn commit(&mut self, slot: u32) -> Answer {
+        let answer = Machine::commit(&mut self.machine, slot);
+        if answer == Answer::Done {
+            self.first[slot as usize].clear();
+        }
+        answer
+    }
+
+    fn abort(&mut self, slot: u32) -> Answer {
+        let (changes, before) = (self.changes(slot), self.machine.fields.clone());
+        let answer = Machine::abort(&mut self.machine, slot);
+        if answer == Answer::Done {
+            self.spoil(slot, changes, &before);
+            self.first[slot as usize].clear();
+        }
+        answer
+    }
+
+    fn fields(&self) -> Vec<u32> {
+        self.machine.values()
+    }
+}
+
+/// How lists are made: on which texts, and by whom.
+type Lists = (fn(&mut Random) -> Vec<u8>, fn(&mut Random, &Library) -> Caller);
+
+const ANY: Lists = (text_to_call, Caller::new);
+const TALLIES: Lists = (tally::text, Caller::tallying);
+
 /// Whether a list on a machine is right by demand 3, at its end, and by Ticket 4, after each call.
-fn right(machine: &mut dyn Copied, library: &Library, values: &[u32], random: &mut Random) -> (bool, bool) {
-    let (mut course, mut caller) = (Course::start(library, values), Caller::new(random, library));
+fn right(machine: &mut dyn Copied, library: &Library, values: &[u32], mut caller: Caller, random: &mut Random) -> (bool, bool) {
+    let mut course = Course::start(library, values);
     let mut seen = true;
     for k in 0..308 {
         let call = if k < 300 { caller.next(random, library) } else { Call::Abort(k - 300) };
@@ -278,29 +376,46 @@ fn right(machine: &mut dyn Copied, library: &Library, values: &[u32], random: &m
 }
 
 /// Among how many of 60 lists a machine is seen to be wrong by demand 3, and by Ticket 4.
-fn seen_alone(machine: impl for<'a> Fn(&'a Library, Second<'a>) -> Box<dyn Copied + 'a>) -> (usize, usize) {
+fn seen_alone((text, caller): Lists, machine: impl for<'a> Fn(&'a Library, Second<'a>) -> Box<dyn Copied + 'a>) -> (usize, usize) {
     let lists: Vec<(bool, bool)> = (0..60).map(|seed| {
         let mut random = Random::new(seed + 1_000_000);
-        let library = reference::read(&text_to_call(&mut random)).unwrap();
+        let library = reference::read(&text(&mut random)).unwrap();
         let values = values_for(&mut random, &library);
         let mut machine = machine(&library, Second::start(&library, &values).unwrap());
-        right(&mut *machine, &library, &values, &mut random)
+        let caller = caller(&mut random, &library);
+        right(&mut *machine, &library, &values, caller, &mut random)
     }).collect();
     (lists.iter().filter(|list| !list.0).count(), lists.iter().filter(|list| !list.1).count())
 }
 
+/// Says among how many lists a fault was seen.
+fn told(fault: &str, (demand_3, ticket_4): (usize, usize)) -> String {
+    let seen = format!("{fault}: seen by demand 3 in {demand_3} of 60 lists, by Ticket 4 in {ticket_4}");
+    println!("{seen}");
+    seen
+}
+
 #[test]
 fn ticket_4_sees_more_than_demand_3() {
-    assert_eq!(seen_alone(|_, machine| Box::new(machine)), (0, 0), "a difference where there is no fault");
-    let viewed = |reads_open: bool| {
-        seen_alone(move |library, machine| Box::new(Viewed { library, machine, reads_open, messages: Vec::new(), running: false }))
-    };
-    let late = seen_alone(|_, machine| Box::new(Late { machine, aborted: None }));
-    let (open, committed) = (viewed(true), viewed(false));
-    for (fault, counts) in [("a viewer reads what is open", open), ("a viewer reads what is committed", committed), ("undoes late", late)] {
-        let (demand_3, ticket_4) = counts;
-        let seen = format!("{fault}: seen by demand 3 in {demand_3} of 60 lists, by Ticket 4 in {ticket_4}");
-        println!("{seen}");
-        assert!(demand_3 < 4 && ticket_4 >= 6, "{seen}");
+    for (kind, lists) in [("any lists", ANY), ("tallies", TALLIES)] {
+        assert_eq!(seen_alone(lists, |_, machine| Box::new(machine)), (0, 0), "a difference where there is no fault, {kind}");
+        let viewed = |reads_open: bool| {
+            seen_alone(lists, move |library, machine| Box::new(Viewed { library, machine, reads_open, messages: Vec::new(), running: false }))
+        };
+        let late = seen_alone(lists, |_, machine| Box::new(Late { machine, aborted: None }));
+        let faults = [("a viewer reads what is open", viewed(true)), ("a viewer reads what is committed", viewed(false)), ("undoes late", late)];
+        for (fault, counts) in faults {
+            let seen = told(&format!("{kind}, {fault}"), counts);
+            assert!(counts.0 * 5 <= counts.1 && counts.1 >= 4, "{seen}");
+        }
+    }
+}
+
+#[test]
+fn additions_undone_wrongly_are_seen() {
+    for undoes in [Undoes::ToTheFirstValue, Undoes::NoAddition, Undoes::ToTheFirstSet, Undoes::AdditionsAfterTheSet] {
+        let counts = seen_alone(TALLIES, |_, machine| Box::new(Undoer { machine, undoes, first: Default::default() }));
+        let seen = told(&format!("undoes {undoes:?}"), counts);
+        assert!(counts.1 >= 6, "{seen}");
     }
 }

@@ -3,7 +3,7 @@
 use differential::texts::compare_named;
 use differential::{amount, each_seed};
 use generate::text::{text, LARGE, MIDDLE, SMALL};
-use generate::{damage, limits, Random};
+use generate::{damage, limits, tally, Random};
 use reference::stored;
 use std::collections::BTreeMap;
 
@@ -37,23 +37,29 @@ fn limits_and_one_past() {
     }
     assert_eq!(compare_named("most statements", &limits::most_statements(), &mut random), 0);
     assert_eq!(compare_named("widest", &limits::widest(), &mut random), 0);
+    assert_eq!(compare_named("most tallies", &limits::most_tallies(), &mut random), 0);
 }
 
-/// A generated text: small ones mostly, whole, damaged or with a fault that is aimed at; some large, some noise.
+/// A valid text: small ones mostly, some of tallies, some large.
+fn valid(random: &mut Random) -> Vec<u8> {
+    match random.below(200) {
+        0 => text(random, LARGE),
+        1..=20 => text(random, MIDDLE),
+        21..=50 => tally::text(random),
+        _ => text(random, SMALL),
+    }
+}
+
+/// A generated text: whole, damaged or with a fault that is aimed at; some noise.
 fn generated(random: &mut Random, seed: u64) -> Vec<u8> {
-    let size = match random.below(200) {
-        0 => LARGE,
-        1..=20 => MIDDLE,
-        _ => SMALL,
-    };
     match seed % 20 {
-        0..=5 => text(random, size),
+        0..=5 => valid(random),
         6..=14 => {
-            let whole = text(random, size);
+            let whole = valid(random);
             damage::damaged(random, &whole)
         }
         15 | 16 => {
-            let whole = text(random, size);
+            let whole = valid(random);
             damage::aimed(random, &whole)
         }
         17 => damage::noise(random),

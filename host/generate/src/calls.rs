@@ -1,14 +1,18 @@
 //! Call lists on a library: clashes, stops, aborts and commits are all frequent.
 
 use crate::text::{text, LARGE, MIDDLE, SMALL};
-use crate::{limits, Random};
+use crate::{limits, tally, Random};
 use reference::machine::{Answer, Call, Target};
 use reference::text::Library;
+use reference::vectors::{transitive, Mode};
 
 /// A text that has something to send to: objects and methods, but for a few.
 pub fn text_to_call(random: &mut Random) -> Vec<u8> {
     if random.one_in(60) {
         return limits::message_of(1_021 + random.below(5));
+    }
+    if random.one_in(8) {
+        return tally::text(random);
     }
     let size = match random.below(60) {
         0 => LARGE,
@@ -24,7 +28,8 @@ pub fn text_to_call(random: &mut Random) -> Vec<u8> {
     }
 }
 
-/// The text with methods that tell a field in their last statement, and some that alter one before it, if that keeps to the limits.
+/// The text with methods that tell a field in their last statement, and some that set or add to one before it, if that keeps to the
+/// limits.
 fn telling(random: &mut Random, text: Vec<u8>) -> Vec<u8> {
     let library = reference::read(&text).expect("an accepted text");
     let (mut told, mut fields) = (String::new(), Vec::new());
@@ -35,7 +40,8 @@ fn telling(random: &mut Random, text: Vec<u8>) -> Vec<u8> {
             ["end"] if !fields.is_empty() => {
                 if random.one_in(2) {
                     let field = &random.pick(&fields).1;
-                    told += &format!("set {field} + {field} 1\n");
+                    let adds = random.one_in(2);
+                    told += &if adds { format!("add {field} arg\n") } else { format!("set {field} + {field} 1\n") };
                 }
                 told += &format!("reply {}\n", random.pick(&fields).1);
             }
@@ -47,10 +53,10 @@ fn telling(random: &mut Random, text: Vec<u8>) -> Vec<u8> {
     if reference::read(&told).is_ok() { told } else { text }
 }
 
-/// The text sets a field in three places, and has at least two objects.
+/// The text sets or adds to a field in three places, and has at least two objects.
 fn lively(text: &[u8]) -> bool {
     let lines = |word: &[u8]| text.split(|&b| b == b'\n').filter(|l| l.starts_with(word)).count();
-    lines(b"set ") > 2 && lines(b"object ") > 1
+    lines(b"set ") + lines(b"add ") > 2 && lines(b"object ") > 1
 }
 
 /// A list of values to start on: the text's own, or any.
@@ -76,8 +82,8 @@ pub struct Caller {
     slots: usize,
     /// How many steps it makes for each other call.
     patience: usize,
-    /// The targets that it likes.
-    liked: Vec<Target>,
+    /// The targets that it likes, and the methods of each that it likes.
+    liked: Vec<(Target, Vec<u32>)>,
 }
 
 fn any_target(random: &mut Random, library: &Library) -> Target {
@@ -88,13 +94,28 @@ fn any_target(random: &mut Random, library: &Library) -> Target {
     }
 }
 
-/// How many methods the class of a target has; 0 where there is none.
-fn methods(library: &Library, target: Target) -> usize {
-    let class = match target {
+fn class_of(library: &Library, target: Target) -> Option<&String> {
+    match target {
         Target::Object(o) => library.objects.get(o as usize).map(|o| &o.class),
         Target::Class(c) | Target::Domain(c) => library.classes.get(c as usize).map(|c| &c.name),
-    };
-    class.map_or(0, |c| library.methods(c).len())
+    }
+}
+
+/// How many methods the class of a target has; 0 where there is none.
+fn methods(library: &Library, target: Target) -> usize {
+    class_of(library, target).map_or(0, |c| library.methods(c).len())
+}
+
+/// A target with all methods of its class.
+fn with_all(library: &Library, target: Target) -> (Target, Vec<u32>) {
+    (target, (0..methods(library, target) as u32).collect())
+}
+
+/// A target with the methods of its class that add to a field.
+fn with_adding(library: &Library, target: Target) -> (Target, Vec<u32>) {
+    let class = class_of(library, target).expect("a target with a class");
+    let adds = |method: &String| transitive(library, class, method).contains(&Mode::Add);
+    (target, (0..).zip(library.methods(class)).filter(|(_, method)| adds(method)).map(|(k, _)| k).collect())
 }
 
 /// A target that has methods, if that is not hard to find.
@@ -105,14 +126,30 @@ fn target(random: &mut Random, library: &Library) -> Target {
 
 impl Caller {
     pub fn new(random: &mut Random, library: &Library) -> Caller {
-        let liked = (0..1 + random.below(4)).map(|_| target(random, library)).collect();
+        let liked = (0..1 + random.below(4)).map(|_| with_all(library, target(random, library))).collect();
         let slots = if random.one_in(4) { 8 } else { 2 + random.below(3) };
         Caller { phases: [Phase::Closed; 8], slots, patience: 2 + random.below(12), liked }
     }
 
     /// One that uses all slots and likes one target: most of its first sends clash.
     pub fn crowded(random: &mut Random, library: &Library) -> Caller {
-        Caller { phases: [Phase::Closed; 8], slots: 8, patience: 2, liked: vec![target(random, library)] }
+        Caller { phases: [Phase::Closed; 8], slots: 8, patience: 2, liked: vec![with_all(library, target(random, library))] }
+    }
+
+    /// One that likes an object, its class and its domain, and the methods that add to a field: several slots add to one at once. With
+    /// few slots one of them often sets what it added to.
+    pub fn tallying(random: &mut Random, library: &Library) -> Caller {
+        if library.objects.is_empty() {
+            return Caller::new(random, library);
+        }
+        let object = random.below(library.objects.len());
+        let class = library.number_of(&library.objects[object].class) as u32;
+        let object = Target::Object(object as u32);
+        let targets = [object, object, Target::Class(class), Target::Domain(class), Target::Domain(0)];
+        let mut liked: Vec<_> = targets.into_iter().map(|target| with_adding(library, target)).collect();
+        let slots = if random.one_in(3) { 2 } else { 3 + random.below(6) };
+        liked.extend(vec![with_all(library, object); if slots == 2 { 5 } else { 1 }]);
+        Caller { phases: [Phase::Closed; 8], slots, patience: 2 + random.below(4), liked }
     }
 
     /// Learns what a call was answered.
@@ -130,8 +167,10 @@ impl Caller {
     }
 
     fn send(&self, random: &mut Random, library: &Library, slot: u32) -> Call {
-        let target = if random.one_in(3) { target(random, library) } else { *random.pick(&self.liked) };
-        Call::Send { slot, target, method: random.below(methods(library, target)) as u32, argument: random.edge() }
+        let any = random.one_in(3).then(|| with_all(library, target(random, library)));
+        let (target, methods) = any.as_ref().unwrap_or_else(|| random.pick(&self.liked));
+        let method = methods.get(random.below(methods.len())).copied().unwrap_or(0);
+        Call::Send { slot, target: *target, method, argument: random.edge() }
     }
 
     /// A call without a thought: a slot that may not be there, a send that may name nothing.

@@ -137,14 +137,34 @@ fn parent_added(random: &mut Random, mut rows: Vec<Vec<u8>>) -> Vec<u8> {
     rows.concat()
 }
 
-/// The text with a fault that chance seldom meets: 15, 16, 17 or 11.
+/// What is wrong with `add`: its form, a field that nobody has, its use as a name. Some are right in a class with a field x.
+const ADDS: [&str; 17] = [
+    "add", "add x", "add 1 1", "add x 1 1", "add x + 1", "add add 1", "add arg 1", "add x add", "add x got", "when x add x x", "when 1 add x",
+    "add x when 1", "add nobody 1", "add x nobody", "when nobody add x 1", "when add reply 1", "set add 1",
+];
+const NAMED_ADD: [&str; 6] = ["class add", "field add", "method add", "class zz : add", "object add a", "object zz add"];
+
+/// A line with an `add` that is wrong, in a body or anywhere.
+fn add_misused(random: &mut Random, mut rows: Vec<Vec<u8>>) -> Vec<u8> {
+    let ends: Vec<usize> = (0..rows.len()).filter(|&k| rows[k] == b"end\n").collect();
+    let (at, line) = if ends.is_empty() || random.one_in(4) {
+        (random.below(rows.len() + 1), *random.pick(&NAMED_ADD))
+    } else {
+        (*random.pick(&ends), *random.pick(&ADDS))
+    };
+    rows.insert(at, format!("{line}\n").into_bytes());
+    rows.concat()
+}
+
+/// The text with a fault that chance seldom meets: 15, 16, 17 or 11, or one of `add`.
 pub fn aimed(random: &mut Random, text: &[u8]) -> Vec<u8> {
     let mut rows = lines(text);
     let at = |word: &[u8]| (0..rows.len()).filter(|&k| rows[k].starts_with(word)).collect::<Vec<usize>>();
     let (classes, methods, ends, objects) = (at(b"class "), at(b"method "), at(b"end\n"), at(b"object "));
     let below_classes = objects.first().copied().unwrap_or(rows.len());
     let numbered = |line: &str| (0..65).map(|k| format!("{line}{k}\n")).collect::<String>();
-    match random.below(7) {
+    match random.below(8) {
+        7 => return add_misused(random, rows),
         0 => rows.insert(below_classes, b"class yy\nfield f\nclass yz\nfield f\nclass zz : yy yz\n".to_vec()),
         1 if !ends.is_empty() => {
             let method = *random.pick(&methods);

@@ -4,6 +4,7 @@ pub mod calls;
 pub mod damage;
 pub mod limits;
 pub mod lines;
+pub mod tally;
 pub mod text;
 
 /// A small generator of numbers (xorshift), so that a seed gives the same run everywhere.

@@ -131,6 +131,21 @@ pub fn widest() -> Vec<u8> {
     text.into_bytes()
 }
 
+/// Each of 32 methods adds to a field of its own, in 16 classes, each below the one before it, with 64 objects: 2,048 values.
+pub fn most_tallies() -> Vec<u8> {
+    let mut text = String::from("class a\n") + &lines(32, |k| format!("field f{k}"));
+    for k in 0..32 {
+        text += &method(&format!("m{k}"), &format!("add f{k} arg\n"));
+    }
+    for class in 1..16u8 {
+        let (name, parent) = ((b'a' + class) as char, (b'a' + class - 1) as char);
+        let k = 2 * class;
+        text += &format!("class {name} : {parent}\n{}", method(&format!("m{k}"), &format!("send {parent}.m{k} to self arg\nadd f31 arg\n")));
+    }
+    text += &lines(64, |k| format!("object o{k} {} {k}", (b'a' + (k % 16) as u8) as char));
+    text.into_bytes()
+}
+
 /// Method m takes as many steps on an object as are named, 1,021 to 1,025.
 pub fn message_of(steps: usize) -> Vec<u8> {
     // Calls, statements in the body called, and statements beside the calls.
@@ -180,9 +195,11 @@ pub fn limits() -> Vec<Limit> {
         limit("bytes of an object's name", 12, 16, |n| format!("class a\nobject {} a\n", name(n))),
         limit("operators on a path of a reply", 12, 8, |n| in_body(format!("reply {}", path(n)))),
         limit("operators on a path of a set", 12, 8, |n| in_body(format!("set x {}", path(n)))),
+        limit("operators on a path of an add", 12, 8, |n| in_body(format!("add x {}", path(n)))),
         limit("operators on a path of a send", 12, 8, |n| in_body(format!("send m to self {}", path(n)))),
         limit("operators on a path of a when", 12, 8, |n| in_body(format!("when {} reply 1", path(n)))),
         limit("operators on each path", 12, 8, |n| in_body(format!("when {} set x {}", tree(n), tree(8)))),
+        limit("operators on each path of an add", 12, 8, |n| in_body(format!("when {} add x {}", tree(8), tree(n)))),
         limit("a number in a statement", 12, 1, |n| in_body(format!("reply {}", number(n)))),
         limit("a starting value", 12, 1, |n| format!("class a\nfield x\nobject o a {}\n", number(n))),
     ]

@@ -69,7 +69,7 @@ fn statement(random: &mut Random, size: Size, classes: &[Class], class: &Class, 
     match random.below(5) {
         0 | 1 if !class.fields.is_empty() => {
             let field = &random.pick(&class.fields).1;
-            out.push_str(&format!("set {field} "));
+            out.push_str(&format!("{} {field} ", random.pick(&["set", "add"])));
         }
         2 if !prefixes.is_empty() => {
             let ancestor = &classes[*random.pick(&prefixes)];

@@ -30,7 +30,7 @@ fn limits_are_limits() {
         let text = limits::of_length(n);
         assert_eq!((text.len(), reference::read(&text).err()), (n, None));
     }
-    for text in [limits::most_statements(), limits::widest()] {
+    for text in [limits::most_statements(), limits::widest(), limits::most_tallies()] {
         assert_eq!((text.len() <= 32_768, reference::read(&text).err()), (true, None));
     }
 }
@@ -38,7 +38,7 @@ fn limits_are_limits() {
 #[test]
 fn damage_meets_every_number() {
     let mut found = std::collections::BTreeMap::new();
-    for seed in 0..8_000 {
+    for seed in 0..20_000 {
         let mut random = Random::new(seed);
         let whole = text(&mut random, [SMALL, MIDDLE][seed as usize % 2]);
         let damaged = damage::damaged(&mut random, &whole);

@@ -15,7 +15,7 @@ fn mask(bits: impl Iterator<Item = bool>) -> usize {
 pub fn image(text: &[u8]) -> Result<Vec<u8>, Fault> {
     let library = read(text)?;
     let vectors = all(&library);
-    let mut parts = [Vec::new(), Vec::new(), Vec::new()];
+    let mut parts = [Vec::new(), Vec::new(), Vec::new(), Vec::new()];
     for s in library.statements() {
         word(&mut parts[0], s.at);
         word(&mut parts[0], s.size);
@@ -25,10 +25,11 @@ pub fn image(text: &[u8]) -> Result<Vec<u8>, Fault> {
             word(&mut parts[1], mask(v.iter().map(|&m| m == Mode::Read)));
             word(&mut parts[1], mask(v.iter().map(|&m| m == Mode::Write)));
             word(&mut parts[2], mask(class.iter().map(|w| commute(v, w))));
+            word(&mut parts[3], mask(v.iter().map(|&m| m == Mode::Add)));
         }
     }
     let mut image = Vec::new();
-    let mut at = 24;
+    let mut at = 32;
     for part in &parts {
         word(&mut image, at);
         word(&mut image, part.len());
@@ -50,6 +51,7 @@ pub fn tables(text: &[u8]) -> String {
             let letter = |m: &Mode| match m {
                 Mode::Null => 'N',
                 Mode::Read => 'R',
+                Mode::Add => 'A',
                 Mode::Write => 'W',
             };
             let letters: String = if v.is_empty() { "-".into() } else { v.iter().map(letter).collect() };

@@ -73,6 +73,16 @@ pub enum Step {
     Stopped,
 }
 
+/// A change of a field: set, with the value before it, or added to.
+#[derive(Clone, Copy, Debug, PartialEq, Eq)]
+pub enum Change {
+    Set(u32),
+    Add(u32),
+}
+
+/// Told of each change: the object, the field's name, the change.
+type Told<'t> = &'t mut dyn FnMut(usize, &str, Change);
+
 /// The fields, object by object, each a map from names to values.
 pub type Fields = Vec<BTreeMap<String, u32>>;
 
@@ -108,10 +118,10 @@ impl<'a> OnObject<'a> {
         self.activations.push(Activation { body, next: 0, argument, got: 0, reply: 0 });
     }
 
-    /// One step; `set` is told of each field before it is set.
-    pub fn step(&mut self, library: &'a Library, fields: &mut Fields, set: &mut dyn FnMut(usize, &str, u32)) -> Step {
+    /// One step; `told` hears of each change.
+    pub fn step(&mut self, library: &'a Library, fields: &mut Fields, told: Told) -> Step {
         self.steps += 1;
-        match self.one(library, fields, set) {
+        match self.one(library, fields, told) {
             Step::Going if self.steps >= 1_024 => Step::Stopped,
             outcome => outcome,
         }
@@ -129,7 +139,7 @@ impl<'a> OnObject<'a> {
         }
     }
 
-    fn one(&mut self, library: &'a Library, fields: &mut Fields, set: &mut dyn FnMut(usize, &str, u32)) -> Step {
+    fn one(&mut self, library: &'a Library, fields: &mut Fields, told: Told) -> Step {
         let object = self.object;
         let depth = self.activations.len();
         let top = self.activations.last_mut().expect("an activation");
@@ -146,9 +156,14 @@ impl<'a> OnObject<'a> {
         }
         match &placed.statement.action {
             Action::Set(field, e) => {
-                let new = value(e, now, top);
-                set(object, field, now[field]);
+                let (old, new) = (now[field], value(e, now, top));
+                told(object, field, Change::Set(old));
                 fields[object].insert(field.clone(), new);
+            }
+            Action::Add(field, e) => {
+                let (old, more) = (now[field], value(e, now, top));
+                told(object, field, Change::Add(more));
+                fields[object].insert(field.clone(), old.wrapping_add(more));
             }
             Action::Reply(e) => {
                 top.reply = value(e, now, top);
@@ -170,7 +185,8 @@ impl<'a> OnObject<'a> {
 #[derive(Clone, Debug, Default)]
 struct Transaction<'a> {
     locks: HashSet<Lock>,
-    before: HashMap<(usize, String), u32>,
+    /// The changes that it made to a field, in order.
+    changes: HashMap<(usize, String), Vec<Change>>,
     message: Option<Message>,
     on: Option<OnObject<'a>>,
     left: Vec<usize>,
@@ -252,8 +268,26 @@ impl<'a> Machine<'a> {
         matches!(self.slots.get(slot as usize), Some(Some(_)))
     }
 
+    pub fn is_running(&self, slot: u32) -> bool {
+        matches!(self.slots.get(slot as usize), Some(Some(transaction)) if transaction.message.is_some())
+    }
+
     pub fn idle(&self) -> bool {
         !(0..8).any(|slot| self.is_open(slot))
+    }
+
+    /// The changes that a slot's open transaction made to each field, by the object and the field's name, in order.
+    pub fn changes(&self, slot: u32) -> impl Iterator<Item = (&(usize, String), &Vec<Change>)> {
+        self.slots[slot as usize].iter().flat_map(|transaction| &transaction.changes)
+    }
+
+    /// How many slots have added to one field and not ended, of the field where most have.
+    pub fn most_adding(&self) -> usize {
+        let mut adding: HashMap<&(usize, String), usize> = HashMap::new();
+        for (field, changes) in (0..8).flat_map(|slot| self.changes(slot)) {
+            *adding.entry(field).or_default() += matches!(changes[0], Change::Add(_)) as usize;
+        }
+        adding.into_values().max().unwrap_or(0)
     }
 
     fn commute(&self, class: &str, a: &str, b: &str) -> bool {
@@ -275,8 +309,8 @@ impl<'a> Machine<'a> {
             return Answer::Refused(31);
         }
         let open = self.is_open(slot);
+        let running = self.is_running(slot);
         let slot = slot as usize;
-        let running = open && self.slots[slot].as_ref().unwrap().message.is_some();
         match call {
             Call::Step(_) | Call::Commit(_) | Call::Abort(_) if !open => Answer::Refused(32),
             Call::Send { .. } | Call::Commit(_) if running => Answer::Refused(34),
@@ -294,9 +328,16 @@ impl<'a> Machine<'a> {
         }
     }
 
+    /// Takes back the changes to each field, the last one first: an addition is taken from the value that is there, a set gives the
+    /// value before it.
     fn undo(&mut self, slot: usize) {
         let transaction = self.slots[slot].take().expect("an open slot");
-        for ((object, field), value) in transaction.before {
+        for ((object, field), changes) in transaction.changes {
+            let back = |value: u32, change: &Change| match change {
+                Change::Set(before) => *before,
+                Change::Add(more) => value.wrapping_sub(*more),
+            };
+            let value = changes.iter().rev().fold(self.fields[object][&field], back);
             self.fields[object].insert(field, value);
         }
     }
@@ -335,11 +376,11 @@ impl<'a> Machine<'a> {
                 }
             }
         }
-        let before = &mut transaction.before;
-        let mut set = |object: usize, field: &str, value: u32| {
-            before.entry((object, field.to_string())).or_insert(value);
+        let changes = &mut transaction.changes;
+        let mut told = |object: usize, field: &str, change: Change| {
+            changes.entry((object, field.to_string())).or_default().push(change);
         };
-        match transaction.on.as_mut().unwrap().step(library, &mut self.fields, &mut set) {
+        match transaction.on.as_mut().unwrap().step(library, &mut self.fields, &mut told) {
             Step::Going => Answer::Going,
             Step::Stopped => {
                 self.undo(slot);

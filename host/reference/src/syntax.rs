@@ -13,6 +13,7 @@ pub enum Expression {
 #[derive(Clone, Debug, PartialEq)]
 pub enum Action {
     Set(String, Expression),
+    Add(String, Expression),
     Send { class: Option<String>, method: String, value: Expression },
     Reply(Expression),
 }
@@ -86,6 +87,7 @@ fn whole(words: &[&str]) -> Option<Expression> {
 fn action(words: &[&str]) -> Option<Action> {
     match words {
         ["set", field, e @ ..] => Some(Action::Set(name(field)?, whole(e)?)),
+        ["add", field, e @ ..] => Some(Action::Add(name(field)?, whole(e)?)),
         ["send", method, "to", "self", e @ ..] => {
             let (class, method) = match method.split_once('.') {
                 Some((class, method)) => (Some(name(class)?), name(method)?),

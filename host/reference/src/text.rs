@@ -245,7 +245,7 @@ fn faults(library: &Library, form: &Form, later: &[String]) -> Vec<u32> {
             }
             let own = |m: &String| library.methods(&class.name).contains(m) || later.contains(m);
             match &statement.action {
-                Action::Set(field, e) => {
+                Action::Set(field, e) | Action::Add(field, e) => {
                     named.insert(field.clone());
                     names_in(e, &mut named);
                 }

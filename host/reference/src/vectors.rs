@@ -1,27 +1,45 @@
-//! Access vectors and commuting methods (definitions 5 to 10 of the paper), as maps and sets.
+//! Access vectors and commuting methods (definitions 5 to 10 of the paper; document 02, Ticket 6), as maps and sets.
 
 use crate::syntax::{Action, Expression};
 use crate::text::{Library, Method};
 use std::collections::{BTreeSet, HashMap};
 
-#[derive(Clone, Copy, Debug, PartialEq, Eq, PartialOrd, Ord)]
+#[derive(Clone, Copy, Debug, PartialEq, Eq)]
 pub enum Mode {
     Null,
     Read,
+    Add,
     Write,
 }
+use Mode::{Add, Null, Read, Write};
+
+/// Two modes joined; rows and columns are Null, Read, Add, Write.
+const JOINED: [[Mode; 4]; 4] = [
+    [Null, Read, Add, Write],
+    [Read, Read, Write, Write],
+    [Add, Write, Add, Write],
+    [Write, Write, Write, Write],
+];
+
+/// Whether two modes clash (Table 1 of the paper, with Add), in the same order.
+const CLASHES: [[bool; 4]; 4] = [
+    [false, false, false, false],
+    [false, false, true, true],
+    [false, true, false, true],
+    [false, true, true, true],
+];
 
 /// A mode for each field that occurs; absent ones are Null.
 type Modes = HashMap<String, Mode>;
 
 fn raise(modes: &mut Modes, field: &str, mode: Mode) {
-    let now = modes.entry(field.to_string()).or_insert(Mode::Null);
-    *now = (*now).max(mode);
+    let now = modes.entry(field.to_string()).or_insert(Null);
+    *now = JOINED[*now as usize][mode as usize];
 }
 
 fn reads(e: &Expression, modes: &mut Modes) {
     match e {
-        Expression::Field(f) => raise(modes, f, Mode::Read),
+        Expression::Field(f) => raise(modes, f, Read),
         Expression::Apply(_, a, b) => {
             reads(a, modes);
             reads(b, modes);
@@ -39,7 +57,11 @@ pub fn direct(method: &Method) -> Modes {
         }
         match &placed.statement.action {
             Action::Set(field, e) => {
-                raise(&mut modes, field, Mode::Write);
+                raise(&mut modes, field, Write);
+                reads(e, &mut modes);
+            }
+            Action::Add(field, e) => {
+                raise(&mut modes, field, Add);
                 reads(e, &mut modes);
             }
             Action::Send { value, .. } => reads(value, &mut modes),
@@ -75,12 +97,12 @@ pub fn transitive(library: &Library, class: &str, method: &str) -> Vec<Mode> {
             raise(&mut modes, &field, mode);
         }
     }
-    library.fields(class).iter().map(|(_, n)| modes.get(n).copied().unwrap_or(Mode::Null)).collect()
+    library.fields(class).iter().map(|(_, n)| modes.get(n).copied().unwrap_or(Null)).collect()
 }
 
 /// Two vectors commute if no field clashes.
 pub fn commute(a: &[Mode], b: &[Mode]) -> bool {
-    a.iter().zip(b).all(|(&x, &y)| x.min(y) == Mode::Null || x.max(y) == Mode::Read)
+    a.iter().zip(b).all(|(&x, &y)| !CLASHES[x as usize][y as usize])
 }
 
 /// The transitive vectors of each class's methods, in order.

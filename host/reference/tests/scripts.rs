@@ -49,7 +49,7 @@ fn copy(name: &str) -> PathBuf {
         fs::create_dir_all(copy.join(folder)).unwrap();
     }
     let files = ["crates.txt", "tables.sh", "rehearse.sh", "test.sh", "host/scripts/program.sh"];
-    let samples = ["samples/lanes.txt", "samples/left-board.calls", "samples/right-board.calls"];
+    let samples = ["samples/lanes.txt", "samples/left-board.calls", "samples/right-board.calls", "samples/tally.txt"];
     for file in files.iter().chain(&samples) {
         fs::copy(top().join(file), copy.join(file)).unwrap_or_else(|e| panic!("{file}: {e}"));
     }
@@ -92,6 +92,8 @@ fn tables() {
     says(&said, &["tables.sh: proving and building tables: some minutes", "tables.sh: crate 2 of ", ": model proved (2 s)\n"]);
     let (_, said, _) = run(&copy, &["tables.sh", "lanes.txt"], None, "");
     assert!(!said.contains("minutes"), "it is built: {said}");
+    let (printed, _, status) = run(&copy, &["tables.sh", "tally.txt"], None, "");
+    assert_eq!((printed.as_str(), status), ("lane tally A ynn\nlane plot R nyn\nlane clear W nnn\n", Some(0)));
     let (printed, said, status) = run(&copy, &["tables.sh"], None, "check");
     assert_eq!((printed.as_str(), status), ("", Some(1)));
     says(&said, &["NOT PROVED"]);

@@ -214,7 +214,8 @@ impl<'a> Machine<'a> {
         done(lent::commit(self.text, &mut self.state, self.values, slot))
     }
 
-    /// Puts back each value that the transaction set, and closes the slot. Gives `NoSuchSlot` or `NotOpen`.
+    /// Puts back each value that the transaction set, takes back what it added to others, and closes the slot. Gives `NoSuchSlot` or
+    /// `NotOpen`.
     pub fn abort(&mut self, slot: u32) -> Result<(), Refusal> {
         done(lent::abort(self.text, &mut self.state, self.values, slot))
     }

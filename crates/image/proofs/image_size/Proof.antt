@@ -1,4 +1,4 @@
--- `image_size` meets its contract: a pair for each statement and three words for each method, after the three pairs.
+-- `image_size` meets its contract: a pair for each statement and four words for each method, after the four pairs.
 use Prim.Native.Nat.{_≤_}
 use native.Mathlib.Omega.{arith}
 use borrow.Author.Needs.{needs}

@@ -1,10 +1,10 @@
--- `write_image` meets its contract: the pairs and the three parts, one after the other, from the front on.
+-- `write_image` meets its contract: the pairs and the four parts, one after the other, from the front on.
 use native.Mathlib.Omega.{arith}
 use borrow.Author.Needs.{needs}
 use Rattle.catalog.specs.View.{classCount}
-use Rattle.image.specs.Written.{imageFrom, masksFrom}
+use Rattle.image.specs.Written.{imageFrom, masksFrom, commuteFrom}
 use Rattle.output.specs.Append.{appended-then, appended-as, appended-over}
-use Rattle.image.specs.Sizes.{total-methods-le, places-length, masks-length, image-pairs}
+use Rattle.image.specs.Sizes.{total-methods-le, places-length, masks-length, commute-length, image-pairs}
 use Rattle.image.proofs.write_image.Statement.{statement}
 use Rattle.image.proofs.write_image.Tie as tie
 
@@ -29,10 +29,23 @@ put-classes-requires-2 c κs =
     let ws = q .before .before .before .before .before .before .args .tables .now in
     omega (arith, q .put-pairs .ensures .behind, p .put-places .ensures .behind, m .put-classes .ensures .behind, places-length ws, masks-length ws, total-methods-le ws (classCount ws))
 
+put-classes-requires-3 : tie.Need-put-classes-requires-3
+unfolding masksFrom commuteFrom
+put-classes-requires-3 c κs =
+    let t = c .before .before .before .before in
+    let m = t .before .before .before .before .before in
+    let p = m .before .before .before .before .before in
+    let q = p .before .before .before .before in
+    let ws = q .before .before .before .before .before .before .args .tables .now in
+    omega
+    (arith, q .put-pairs .ensures .behind, p .put-places .ensures .behind, m .put-classes .ensures .behind, t .put-classes2 .ensures .behind, places-length ws, masks-length ws, commute-length ws, total-methods-le ws (classCount ws))
+
 returns : tie.Need-returns
 unfolding imageFrom
 returns c =
-    let m = c .before .before .before .before .before .before .before in
+    let a = c .before .before in
+    let t = a .before .before .before .before .before in
+    let m = t .before .before .before .before .before in
     let p = m .before .before .before .before .before in
     let q = p .before .before .before .before in
     let n = q .before in
@@ -41,10 +54,12 @@ returns c =
     (appended-then
     (appended-then
     (appended-then
+    (appended-then
     (appended-as (image-pairs ws (n .before .statement-count .result) (n .method-count .result) (n .before .statement-count .ensures) (n .method-count .ensures)) (q .put-pairs .ensures))
     (p .put-places .ensures))
     (m .put-classes .ensures))
-    (c .before .before .put-classes2 .ensures))
+    (t .put-classes2 .ensures))
+    (a .put-classes3 .ensures))
 
 pub write-image-spec : {M : Type 1} → statement M
 write-image-spec =
@@ -58,5 +73,7 @@ write-image-spec =
     put-classes-requires
     (λ c. search needs)
     put-classes-requires-2
+    (λ c. search needs)
+    put-classes-requires-3
     (λ c. search needs)
     returns)

@@ -1,4 +1,4 @@
--- The old value is noted, then the value is set and the statement passed.
+-- The change is noted, then made, and the statement passed.
 use mathlib.Core.Path.{refl}
 use Rattle.machine_words.specs.Row.{carried}
 use borrow.Author.Needs.{needs}
@@ -14,6 +14,7 @@ pub assign-spec : {M : Type 1} → statement M
 assign-spec =
     tie.close
     (tie.spec
+    (λ c κs. search needs)
     (λ c κs. search needs)
     (λ c κs. search needs)
     (λ c κs. search needs)

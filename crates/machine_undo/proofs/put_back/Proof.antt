@@ -32,10 +32,10 @@ loop-again c =
     let T = putBack (noteAt (a .row .now)) O in
     let h : L .i < length O = omega (arith, L .inv .1) in
     let o : getD (L .values) (L .i) 0 ≡ getD O (L .i) 0 = ap (λ (l : List ℕ). getD l (L .i) 0) (L .inv .2) ∙ over-old (L .i) (L .i) T O (back-length (noteAt (a .row .now)) O) (omega arith) in
-    let v : c .noted-or .result ≡ getD T (L .i) 0 = c .noted-or .ensures ∙ ap (restored (noteAt (a .row .now) (L .i))) o ∙ sym (back-at (noteAt (a .row .now)) O (L .i) h) in (
+    let v : c .restored .result ≡ getD T (L .i) 0 = c .restored .ensures ∙ ap (restored (noteAt (a .row .now) (L .i))) o ∙ sym (back-at (noteAt (a .row .now)) O (L .i) h) in (
       omega arith,
-      length-set (L .values) (L .i) (c .noted-or .result) ∙ L .inv .1,
-      over-put T O (back-length (noteAt (a .row .now)) O) (L .values) (L .i) h (L .inv .2) (c .noted-or .result) v,
+      length-set (L .values) (L .i) (c .restored .result) ∙ L .inv .1,
+      over-put T O (back-length (noteAt (a .row .now)) O) (L .values) (L .i) h (L .inv .2) (c .restored .result) v,
     )
 
 returns : tie.Need-returns Inv-loop μ-loop

@@ -19,7 +19,12 @@ returns-2 c =
     rw (p .before .before .before .enum-told2 .given .1) (appended-as (ap u32Bytes (p .before .class-word3 .ensures)) (p .put-u32 .ensures))
 
 returns-3 : tie.Need-returns-3
-returns-3 c = rw (c .before .before .before .before .enum-told3 .given .1) (c .before .before .put-line .ensures)
+returns-3 c =
+    let p = c .before .before in
+    rw (p .before .before .before .enum-told3 .given .1) (appended-as (ap u32Bytes (p .before .class-word4 .ensures)) (p .put-u322 .ensures))
+
+returns-4 : tie.Need-returns-4
+returns-4 c = rw (c .before .before .before .before .enum-told4 .given .1) (c .before .before .put-line .ensures)
 
 pub put-cell-spec : {M : Type 1} → statement M
 put-cell-spec =
@@ -36,10 +41,16 @@ put-cell-spec =
     (λ c κs. search needs)
     (λ c κs. search needs)
     (λ c. search needs)
+    (λ c. search needs)
+    (λ c κs. search needs)
+    (λ c κs. search needs)
+    (λ c. search needs)
     (λ c κs. search needs)
     (λ c. search needs)
     returns
     (λ c. search needs)
     returns-2
     (λ c. search needs)
-    returns-3)
+    returns-3
+    (λ c. search needs)
+    returns-4)

@@ -4,6 +4,7 @@ use mathlib.Core.Path.{_∙_}
 use mathlib.Core.List.{map}
 use native.Mathlib.Omega.{arith}
 use borrow.Author.Needs.{needs}
+use Rattle.model.specs.Base.{bytes}
 use Rattle.model.specs.Tables.{yesOrNo}
 use Rattle.laws.specs.Bits.{bit}
 use Rattle.laws.specs.Upto.{length-upto}
@@ -19,20 +20,20 @@ few m =
     omega (arith, m .member-count .ensures, members-le (a .tables .now) (a .class) 1)
 
 put-marks-requires : tie.Need-put-marks-requires
-put-marks-requires c κs = (few (c .before .before), omega arith)
+put-marks-requires c κs = (few (c .before .before .before), omega arith)
 
 put-byte-requires : tie.Need-put-byte-requires
 put-byte-requires c κs =
     let p = c .before .before .before in
-    let w = p .before .before in
+    let w = p .before .before .before in
     let m = w .before in
     let mask = w .class-word .result in
-    omega (arith, p .put-marks .ensures .behind, length-upto (markOf mask mask 121 110 110) (m .member-count .result), few m)
+    omega (arith, p .put-marks .ensures .behind, length-upto (markOf mask mask mask (bytes "ynnn")) (m .member-count .result), few m)
 
 returns : tie.Need-returns
 returns c =
     let p = c .before .before .before .before .before .before in
-    let w = p .before .before in
+    let w = p .before .before .before in
     appended-then
     (appended-as
     (flags-marked (w .class-word .result) (w .before .member-count .result)

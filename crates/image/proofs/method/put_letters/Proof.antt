@@ -9,13 +9,13 @@ returns : tie.Need-returns
 returns c =
     let p = c .before .before .before .before in
     let a = p .before .before .args in
-    appended-as (letters-none (a .read) (a .write) (a .fields) (p .if1 .taken)) (c .before .before .put-byte .ensures)
+    appended-as (letters-none (a .read) (a .write) (a .add) (a .fields) (p .if1 .taken)) (c .before .before .put-byte .ensures)
 
 returns-2 : tie.Need-returns-2
 returns-2 c =
-    let p = c .before .before .before .before in
+    let p = c .before .before .before .before .before in
     let a = p .before .before .args in
-    appended-as (letters-marked (a .read) (a .write) (a .fields) (p .if1 .left)) (c .before .before .put-marks .ensures)
+    appended-as (letters-marked (a .read) (a .write) (a .add) (a .fields) (p .if1 .left)) (c .before .before .put-marks .ensures)
 
 pub put-letters-spec : {M : Type 1} → statement M
 put-letters-spec =

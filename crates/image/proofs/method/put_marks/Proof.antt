@@ -12,11 +12,11 @@ use Rattle.image.proofs.method.put_marks.Statement.{statement}
 use Rattle.image.proofs.method.put_marks.Tie as tie
 
 abbrev Inv-loop : tie.InvT-loop
-Inv-loop out₀ at count first second high middle low end₀ place₀ out end place =
-    (place ≤ count) × Appended (upto (markOf first second high middle low) place) out₀ at end out
+Inv-loop out₀ at count first second third marks end₀ place₀ out end place =
+    (place ≤ count) × Appended (upto (markOf first second third marks) place) out₀ at end out
 
 abbrev μ-loop : tie.MeasureT-loop
-μ-loop out₀ at count first second high middle low end₀ place₀ out end place = count - place
+μ-loop out₀ at count first second third marks end₀ place₀ out end place = count - place
 
 loop-holds : tie.Need-loop-holds Inv-loop μ-loop
 unfolding upto
@@ -26,14 +26,14 @@ put-byte-requires : tie.Need-put-byte-requires Inv-loop μ-loop
 put-byte-requires c κs =
     let h = c .before .before .before in
     let a = h .before .before .args in
-    omega (arith, h .loop .inv .1 .behind, length-upto (markOf (a .first) (a .second) (a .high) (a .middle) (a .low)) (h .loop .place))
+    omega (arith, h .loop .inv .1 .behind, length-upto (markOf (a .first) (a .second) (a .third) (a .marks .now)) (h .loop .place))
 
 loop-again : tie.Need-loop-again Inv-loop μ-loop
 loop-again c =
     let m = c .before .before .before .before in
     let h = m .before .before in
     let a = h .before .before .args in
-    let f = markOf (a .first) (a .second) (a .high) (a .middle) (a .low) in (
+    let f = markOf (a .first) (a .second) (a .third) (a .marks .now) in (
       omega arith,
       appended-as (ap (λ (b : ℕ). upto f (h .loop .place) ++ (b ∷ [])) (m .mark .ensures) ∙ sym (upto-more f (h .loop .place)))
           (appended-then (h .loop .inv .1) (c .before .before .put-byte .ensures)),
@@ -47,7 +47,7 @@ returns c =
     let h = c .before in
     let a = h .before .before .args in
     let e : h .loop .place ≡ a .count = omega arith in
-    appended-as (ap (upto (markOf (a .first) (a .second) (a .high) (a .middle) (a .low))) e) (h .loop .inv .1)
+    appended-as (ap (upto (markOf (a .first) (a .second) (a .third) (a .marks .now))) e) (h .loop .inv .1)
 
 pub put-marks-spec : {M : Type 1} → statement M
 put-marks-spec =

@@ -40,11 +40,15 @@ returns-8 c = rw (c .before .enum-told8 .given .1) (c .is-action3 .ensures)
 
 returns-9 : tie.Need-returns-9
 unfolding fits
-returns-9 c = rw (c .before .enum-told9 .given .1) (c .is-guarded .ensures)
+returns-9 c = rw (c .before .enum-told9 .given .1) (c .is-action4 .ensures)
 
 returns-10 : tie.Need-returns-10
 unfolding fits
-returns-10 c = rw (c .enum-told10 .given .1)
+returns-10 c = rw (c .before .enum-told10 .given .1) (c .is-guarded .ensures)
+
+returns-11 : tie.Need-returns-11
+unfolding fits
+returns-11 c = rw (c .enum-told11 .given .1)
 
 pub fits-spec : {M : Type 1} → statement M
 fits-spec =
@@ -68,6 +72,8 @@ fits-spec =
     (λ c. search needs)
     (λ c κs. search needs)
     (λ c. search needs)
+    (λ c κs. search needs)
+    (λ c. search needs)
     returns
     returns-2
     returns-3
@@ -77,4 +83,5 @@ fits-spec =
     returns-7
     returns-8
     returns-9
-    returns-10)
+    returns-10
+    returns-11)

@@ -1,23 +1,24 @@
 -- `is_action` meets its contract, keyword by keyword.
 use borrow.Author.Needs.{needs}
 use mathlib.Core.Path.{sym, _∙_}
-use Rattle.model.specs.Form.{actionOf}
-use Rattle.text_syntax.specs.Kinds.{set-action, send-action, reply-action}
+use Rattle.model.specs.Form.{replace, increase, actionOf}
+use Rattle.text_syntax.specs.Kinds.{assign-action, send-action, reply-action}
 use Rattle.text_syntax.proofs.form.is_action.Statement.{statement}
 use Rattle.text_syntax.proofs.form.is_action.Tie as tie
 
 returns : tie.Need-returns
-returns c = rw (c .before .enum-told .given .1) (c .is-set .ensures ∙ sym (set-action _))
+unfolding actionOf
+returns c = rw (c .before .enum-told .given .1) (c .is-assign .ensures ∙ sym (assign-action replace _))
 
 returns-2 : tie.Need-returns-2
-returns-2 c = rw (c .before .enum-told2 .given .1) (c .is-send .ensures ∙ sym (send-action _))
+unfolding actionOf
+returns-2 c = rw (c .before .enum-told2 .given .1) (c .is-assign2 .ensures ∙ sym (assign-action increase _))
 
 returns-3 : tie.Need-returns-3
-returns-3 c = rw (c .before .enum-told3 .given .1) (c .is-whole .ensures ∙ sym (reply-action _))
+returns-3 c = rw (c .before .enum-told3 .given .1) (c .is-send .ensures ∙ sym (send-action _))
 
 returns-4 : tie.Need-returns-4
-unfolding actionOf
-returns-4 c = rw (c .enum-told4 .given .1)
+returns-4 c = rw (c .before .enum-told4 .given .1) (c .is-whole .ensures ∙ sym (reply-action _))
 
 returns-5 : tie.Need-returns-5
 unfolding actionOf
@@ -43,10 +44,16 @@ returns-10 : tie.Need-returns-10
 unfolding actionOf
 returns-10 c = rw (c .enum-told10 .given .1)
 
+returns-11 : tie.Need-returns-11
+unfolding actionOf
+returns-11 c = rw (c .enum-told11 .given .1)
+
 pub is-action-spec : {M : Type 1} → statement M
 is-action-spec =
     tie.close
     (tie.spec
+    (λ c. search needs)
+    (λ c κs. search needs)
     (λ c. search needs)
     (λ c κs. search needs)
     (λ c. search needs)
@@ -69,4 +76,5 @@ is-action-spec =
     returns-7
     returns-8
     returns-9
-    returns-10)
+    returns-10
+    returns-11)

@@ -1,4 +1,4 @@
--- `stored_vector` meets its contract: the two words are those at the masks' places.
+-- `stored_vector` meets its contract: the three words are those at the masks' places.
 use borrow.Author.Needs.{needs}
 use Prim.Native.Nat.{ℕ}
 use mathlib.Core.Path.{ap, _∙_}
@@ -11,15 +11,23 @@ use Rattle.vector_compiler.proofs.fill.stored_vector.Tie as tie
 returns : tie.Need-returns
 unfolding classWord
 returns c =
-    let p = c .before in
-    let g = p .before in
+    let w = c .before .before in
+    let g = w .before .before in
     let a = g .before .before .before .args in
     let word : ℕ → ℕ = λ k. getD (a .tables .now) k 0 in
     let read = g .get .ensures ∙ ap word (g .before .mask-place .ensures) in
-    let write = c .get2 .ensures ∙ ap word (p .mask-place2 .ensures) in
-    λ i. record { uses = bitOr (read i) (write i); writes = write i }
+    let write = w .get2 .ensures ∙ ap word (w .before .mask-place2 .ensures) in
+    let add = c .get3 .ensures ∙ ap word (c .before .mask-place3 .ensures) in
+    λ i. record { depends = bitOr (read i) (write i); changes = bitOr (write i) (add i) }
 
 pub stored-vector-spec : {M : Type 1} → statement M
 stored-vector-spec =
     tie.close
-    (tie.spec (λ c κs. search needs) (λ c κs. search needs) (λ c κs. search needs) (λ c κs. search needs) returns)
+    (tie.spec
+    (λ c κs. search needs)
+    (λ c κs. search needs)
+    (λ c κs. search needs)
+    (λ c κs. search needs)
+    (λ c κs. search needs)
+    (λ c κs. search needs)
+    returns)

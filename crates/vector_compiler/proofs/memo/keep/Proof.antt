@@ -19,8 +19,8 @@ returns c =
     let d = a .direct in
     let first = f .put2 .ensures ∙ ap (λ (l : List ℕ). set l (at + 1) (d .first)) (k .put .ensures) in
     let size = s .put3 .ensures ∙ ap (λ (l : List ℕ). set l (at + 2) (d .size)) first in
-    let uses = u .put4 .ensures ∙ ap (λ (l : List ℕ). set l (at + 3) (d .uses)) size in
-    w .put5 .ensures ∙ ap (λ (l : List ℕ). set l (at + 4) (d .writes)) uses
+    let depends = u .put4 .ensures ∙ ap (λ (l : List ℕ). set l (at + 3) (d .depends)) size in
+    w .put5 .ensures ∙ ap (λ (l : List ℕ). set l (at + 4) (d .changes)) depends
 
 pub keep-spec : {M : Type 1} → statement M
 keep-spec =

@@ -9,7 +9,7 @@ returns c =
     let u = c .before .get3 .ensures in
     let s = c .before .before .get2 .ensures in
     let f = c .before .before .before .get .ensures in
-    λ i. record { first = f i; size = s i; uses = u i; writes = w i }
+    λ i. record { first = f i; size = s i; depends = u i; changes = w i }
 
 pub kept-spec : {M : Type 1} → statement M
 kept-spec =
