@@ -25,6 +25,7 @@ else
     }
     show left
     show right
+    show line
     cp samples/tally.txt "$folder/lib.txt"
     show tally
 fi

@@ -9,7 +9,7 @@ if [ ! -f /usr/include/db.h ] || [ ! -f /usr/include/sqlite3.h ]; then
 fi
 mkdir -p target
 cc -O2 -Wall -Wextra -Iinclude -o target/transactions benchmark/transactions.c ../target/staticlib/libabi.a -lpthread
-cc -O2 -Wall -Wextra -o target/berkeley benchmark/berkeley.c -ldb
+cc -O2 -Wall -Wextra -o target/berkeley benchmark/berkeley.c -ldb -lpthread
 cc -O2 -Wall -Wextra -o target/sqlite benchmark/sqlite.c -lsqlite3
 echo "processors $(nproc), load $(cut -d ' ' -f 1-3 /proc/loadavg)"
 cargo build --quiet --release --offline -p benchmark -p reference

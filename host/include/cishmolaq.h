@@ -10,7 +10,7 @@
  * A text is never altered, and need not be a good one: any bytes get an answer. No call keeps a pointer, allocates, or
  * touches memory that it is not lent. Calls on different memory may run at the same time. Every call ends.
  * *detail, *line and *size are places for a result, and every call writes them; what else a call is lent is as it was where the
- * call gives a number (but for 41).
+ * call gives a number (but for 40 and 41).
  *
  * Lines are numbered from 1, statements from 0. The numbers of a text's own fault, always tested before any other:
  *   11  text longer than 32,768 bytes (line 0)
@@ -82,7 +82,17 @@ uint32_t cishmolaq_print_tables(const uint8_t *text, size_t text_length, uint8_t
  * passes the same three, unaltered by anyone else, to every call. The state's words mean nothing to the caller
  * (docs/STATE.md has them). The values may be read between calls: object by object, each object's fields in order.
  *
- * Slots 0 to 7 each hold at most one open transaction. A granted send to a closed slot opens it; commit, abort and 41 close it.
+ * Slots 0 to 7 each hold at most one open transaction. A send to a closed slot opens it, whether it is granted or waits; commit,
+ * abort and 41 close it.
+ *
+ * A send clashes with another slot if one of its locks clashes with a lock that the slot holds, or with a lock of a send by which the
+ * slot waits. A send that clashes is told 40 and joins the line of waiting sends, the last there. A send whose locks its slot got by
+ * earlier sends is granted, whoever waits. When a transaction ends, by commit, abort or 41, the line is gone through once from its
+ * front: a waiting send starts if it clashes with no lock that another slot holds and with no send that still waits ahead of it. It
+ * then has its locks, and its message is at its start. The call that ended the transaction says nothing of it; the slot that waited
+ * learns of it by its next call, which does not get 37. Until then abort is the one call that the slot can make: it withdraws the
+ * send and undoes the transaction. Slots that wait for each other wait until one of them is aborted.
+ *
  * Places are numbered from 0: objects and classes in text order, methods in the method order of the object's class or of the named
  * class.
  *
@@ -97,12 +107,14 @@ uint32_t cishmolaq_print_tables(const uint8_t *text, size_t text_length, uint8_t
  *   34  message running (send, commit)
  *   35  no message running (step)
  *   36  no such object, class or method (send)
- *   40  another slot's locks clash; the lowest such slot, which is open, is in *detail
+ *   37  the slot waits (send, step, commit)
+ *   40  the send clashes and waits in line; the lowest slot that it clashes with, holder or waiter, is in *detail
  *   41  stopped; the transaction is undone and its slot is closed
  * *detail is 0 beside any number but 2 and 40. 21 is tested first, then 24 as far as lengths and the mark of a start show it, then
- * 31 to 36 in this order, then what else of 24 the call comes upon, then 40. With 21 to 40 nothing is altered. 21 and 24 are given
- * only where a call is lent something other than start and the calls left. On such memory a call gives 24 or goes on by the rules
- * on what it finds; it ends, and touches nothing but what it is lent.
+ * 31, 32, 37, 34, 35 and 36 in this order, then what else of 24 the call comes upon, then 40. With 21 to 37 nothing is altered. With
+ * 40 the slot is open and waits; the values, all locks and every other slot are as they were. 21 and 24 are given only where a call
+ * is lent something other than start and the calls left. On such memory a call gives 24 or goes on by the rules on what it finds; it
+ * ends, and touches nothing but what it is lent.
  */
 
 /* The length of a state in words of 32 bits, the same for every text; a longer one is good too, and its rest is left alone. */
@@ -122,24 +134,25 @@ uint32_t cishmolaq_start(const uint8_t *text, size_t text_length, const uint32_t
                          size_t state_words, size_t *line);
 
 /* Sends the method at a place, with an argument, to the target with this kind and number. A granted send has its locks until
- * commit or abort (or 41), and its message is at its start. Any kind above 2 names nothing: 36.
- * A send to a closed slot is tested for 31, 36 and 40, in this order: granted, it opens the slot; else the slot stays closed.
- * Answers 0; or 21, 24, 31, 34, 36, 40. */
+ * commit or abort (or 41), and its message is at its start. With 40 it waits in line, and there is no need to send it again. Any kind
+ * above 2 names nothing: 36. A closed slot is opened by 0 and by 40, and stays closed with every other number.
+ * Answers 0; or 21, 24, 31, 34, 36, 37, 40. */
 uint32_t cishmolaq_send(const uint8_t *text, size_t text_length, uint32_t *state, size_t state_words, const uint32_t *values,
                         size_t value_count, uint32_t slot, uint32_t kind, uint32_t number, uint32_t method, uint32_t argument,
                         uint32_t *detail);
 
 /* Runs one statement of the slot's message, or ends a body.
- * Answers 1, 2 or 41; or 21, 24, 31, 32, 35. */
+ * Answers 1, 2 or 41; or 21, 24, 31, 32, 35, 37. 41 starts the waiting sends that may start. */
 uint32_t cishmolaq_step(const uint8_t *text, size_t text_length, uint32_t *state, size_t state_words, uint32_t *values,
                         size_t value_count, uint32_t slot, uint32_t *detail);
 
-/* Closes the slot and leaves the values.
- * Answers 0; or 21, 24, 31, 32, 34. */
+/* Closes the slot, leaves the values, and starts the waiting sends that may start.
+ * Answers 0; or 21, 24, 31, 32, 34, 37. */
 uint32_t cishmolaq_commit(const uint8_t *text, size_t text_length, uint32_t *state, size_t state_words, const uint32_t *values,
                           size_t value_count, uint32_t slot, uint32_t *detail);
 
-/* Undoes the transaction and closes the slot. From a field that the transaction only added to, its additions are taken back,
+/* Undoes the transaction, withdraws its send where that waits, closes the slot, and starts the waiting sends that may start. From a
+ * field that the transaction only added to, its additions are taken back,
  * modulo 4,294,967,296; what others added to it stays. A field that the transaction set gets the value right before its first
  * set, less what the transaction had added to it until then.
  * Answers 0; or 21, 24, 31, 32. */

@@ -64,9 +64,9 @@ module _ (kind n : ℕ) where
 
 -- ---- numbers
 
--- A refusal's number is one of 21 to 36, so the number alone tells what the call answered.
+-- A refusal's number is one of 21 to 37, so the number alone tells what the call answered.
 pub refused-apart : {text ws values : List ℕ} {c : Call} {r detail : ℕ} {ws′ values′ : List ℕ} (h : Called text ws values c r detail ws′ values′)
-    → (n : ℕ) → h .outcome ≡ Refused n → (21 ≤ r) × (r ≤ 36)
+    → (n : ℕ) → h .outcome ≡ Refused n → (21 ≤ r) × (r ≤ 37)
 refused-apart h n e =
     let limits = subst (λ (o : Outcome). Numbered (told o)) e (h .does .number) in
     let is = h .number ∙ ap (λ (o : Outcome). callNumber (told o)) e in

@@ -3,53 +3,59 @@
 use Prim.Native.Nat.{ℕ, zero, suc, _+_, _/_, _%_, _≤_, _<_}
 use native.Mathlib.Omega.{arith}
 use mathlib.Core.Path.{_≡_, refl, _∙_}
-use mathlib.Core.Bool.{Bool, true, false, not, cond, _&&_}
+use mathlib.Core.Logic.{_⊎_, inl, inr, ⊎-elim}
+use mathlib.Core.Bool.{Bool, true, false, not, cond, _||_}
 use mathlib.Core.Option.{Option, none, some}
 use mathlib.Core.List.{List}
 use lib.ListN.{length, getD, drop, set, length-set}
+use lib.Seq.{length-sets}
 use lib.Dec.{eqb, leb, ltb, eqb·suc-zero}
 use borrow.Author.Tests.{leb-false, eqb-false, not-true}
 use Rattle.layout.specs.Layout.{valuesMost, changedAt, marksAt, setMarksAt, notesAt, rowWords, stateWords}
-use Rattle.model.specs.Base.{least}
+use Rattle.model.specs.Base.{any, least}
 use Rattle.model.specs.Form.{Change}
 use Rattle.model.specs.Service.{Answer, done, going, answer, refuse, held, stopped}
 use Rattle.model.specs.Machine.{Call, send, step, commit, abort, Request, to, object, class, domain}
 use Rattle.laws.specs.Basics.{least-some}
-use Rattle.laws.specs.Lists.{both-left, both-right}
+use Rattle.laws.specs.Lists.{both-left, both-right, either-cases}
 use Rattle.laws.specs.Bits.{bit}
 use Rattle.catalog.specs.View.{objectWord, classCount, objectCount, memberCount}
 use Rattle.machine_words.specs.Row as Row
 use Rattle.model.specs.Undo.{putBack}
 use Rattle.machine_words.specs.Row.{Turn, noteAt, withAct, newAct, stepped, passed, isSet, noteWord, withMark, notedRow, skipRow, callRow, replyRow, backRow, objectRow, freed, carried}
 use Rattle.machine_words.specs.Turn.{decided}
-use Rattle.machine_words.specs.Request.{Wanted, lacking, rowMeets, locked, First, on, past, nowhere, firstOf, entered}
-use Rattle.machine_words.specs.Calls.{After, tablesOf, rowStart, rowOf, phaseOf, withRow, misfitOf, isStarted, refused, wanted, inTheWay, startedOr, grantedOr, sentTo, sentBy, laid, onClosed, onIdle, onRunning, slotIn, byPhase, called}
+use Rattle.machine_words.specs.Request.{Wanted, lacking, rowMeets, ownsLocks, locked, First, on, past, nowhere, firstOf, entered}
+use Rattle.machine_words.specs.Line.{waitingIn, withdrawn, countIn, firstInLine, holderAt, waiterAt, inTheWay, obstacle, woken}
+use Rattle.machine_words.specs.Calls.{After, tablesOf, rowStart, rowOf, phaseOf, withRow, misfitOf, isStarted, refused, wanted, startedOr, joinedAt, joinedOr, arrivedOr, grantedOr, granted, sentTo, sentBy, laid, endedAt, undoneAt, onClosed, onIdle, onRunning, onWaiting, slotIn, byPhase, called}
+use Rattle.machine_words.specs.Spans.{drop-sets}
 use Rattle.machine_words.specs.Rows.{fit-is}
 use Rattle.machine_refinement.specs.Freeing.{freed-long}
-use Rattle.machine_checks.specs.Lent.{Within, row-size, drop-sets, with-own}
+use Rattle.machine_checks.specs.Lent.{Within, row-size, with-own}
 use Rattle.machine_locks.specs.Granted.{locked-length, entered-length}
+use Rattle.machine_locks.specs.Waits.{withdrawn-length}
+use Rattle.cishmolaq.specs.Joined.{Joined, joins, joins-past, woken-past}
 
--- With every number but 41, what was lent is unchanged.
-abbrev pub Kept : Answer → List ℕ → List ℕ → List ℕ → List ℕ → Type 0
-Kept (refuse n) ws values ws′ values′ = (ws′ ≡ ws) × (values′ ≡ values)
-Kept (held t) ws values ws′ values′ = (ws′ ≡ ws) × (values′ ≡ values)
-Kept done ws values ws′ values′ = Unit {0}
-Kept going ws values ws′ values′ = Unit {0}
-Kept (answer v) ws values ws′ values′ = Unit {0}
-Kept stopped ws values ws′ values′ = Unit {0}
+-- With every number but 40 and 41, what was lent is unchanged; with 40, slot s waits, the last in line.
+abbrev pub Kept : ℕ → Answer → List ℕ → List ℕ → List ℕ → List ℕ → Type 0
+Kept s (refuse n) ws values ws′ values′ = (ws′ ≡ ws) × (values′ ≡ values)
+Kept s (held t) ws values ws′ values′ = Joined ws values s ws′ values′
+Kept s done ws values ws′ values′ = Unit {0}
+Kept s going ws values ws′ values′ = Unit {0}
+Kept s (answer v) ws values ws′ values′ = Unit {0}
+Kept s stopped ws values ws′ values′ = Unit {0}
 
--- 40 for slot s names another slot, which is open in the words.
+-- 40 for slot s names another slot, which is open or in line in the words.
 abbrev pub Holder : List ℕ → ℕ → Answer → Type 0
-Holder ws s (held t) = (t < 8) × (t ≡ s → ⊥) × (phaseOf (rowOf ws t) ≡ 0 → ⊥)
+Holder ws s (held t) = (t < 8) × (t ≡ s → ⊥) × ((phaseOf (rowOf ws t) ≡ 0 → ⊥) ⊎ (any (eqb t) (firstInLine ws (countIn ws)) ≡ true))
 Holder ws s (refuse n) = Unit {0}
 Holder ws s done = Unit {0}
 Holder ws s going = Unit {0}
 Holder ws s (answer v) = Unit {0}
 Holder ws s stopped = Unit {0}
 
--- A refusal's number is one of 21 to 36.
+-- A refusal's number is one of 21 to 37.
 abbrev pub Numbered : Answer → Type 0
-Numbered (refuse n) = (21 ≤ n) × (n ≤ 36)
+Numbered (refuse n) = (21 ≤ n) × (n ≤ 37)
 Numbered (held t) = Unit {0}
 Numbered done = Unit {0}
 Numbered going = Unit {0}
@@ -58,7 +64,7 @@ Numbered stopped = Unit {0}
 
 -- What a call of slot s answers and leaves, on these words and values.
 pub record Keeps (ws values : List ℕ) (s : ℕ) (x : After) : Type 0 where
-  pub kept : Kept (x .answered) ws values (x .words) (x .values)
+  pub kept : Kept s (x .answered) ws values (x .words) (x .values)
   pub past : drop stateWords (x .words) ≡ drop stateWords ws
   pub holder : Holder ws s (x .answered)
   pub number : Numbered (x .answered)
@@ -96,7 +102,7 @@ module _ (text ws values : List ℕ) (s : ℕ) where
   abbrev Good : After → Type 0
   Good = Keeps ws values s
 
-  refuses : (n : ℕ) → 21 ≤ n → n ≤ 36 → Good (refused ws values n)
+  refuses : (n : ℕ) → 21 ≤ n → n ≤ 37 → Good (refused ws values n)
   refuses n g h = record { kept = (refl, refl); past = refl; holder = tt; number = (g, h) }
 
   module _ (h : Within ws s) where
@@ -118,21 +124,50 @@ module _ (text ws values : List ℕ) (s : ℕ) where
     starts q (past o) = record { kept = tt; past = started-past q (past o); holder = tt; number = tt }
     starts q nowhere = refuses 24 (omega arith) (omega arith)
 
-    -- A slot in the way is another one, and open.
-    in-the-way : (q : Wanted) (t : ℕ) → inTheWay text ws s q t ≡ true → (t ≡ s → ⊥) × (phaseOf (rowOf ws t) ≡ 0 → ⊥)
-    unfolding inTheWay
+    -- A slot in the way is another one, and open or in line.
+    in-the-way : (q : Wanted) (t : ℕ) → inTheWay text ws (countIn ws) s q t ≡ true
+        → (t ≡ s → ⊥) × ((phaseOf (rowOf ws t) ≡ 0 → ⊥) ⊎ (any (eqb t) (firstInLine ws (countIn ws)) ≡ true))
+    unfolding inTheWay holderAt waiterAt
     in-the-way q t e =
+        let test : List ℕ → Bool = rowMeets text (tablesOf ws) q in
         let a = not (eqb t s) in
-        let b = not (eqb (phaseOf (rowOf ws t)) 0) in
-        let two = both-left (a && b) (rowMeets text (tablesOf ws) q (rowOf ws t)) e in
-        (eqb-false t s (not-true (eqb t s) (both-left a b two)), eqb-false (phaseOf (rowOf ws t)) 0 (not-true (eqb (phaseOf (rowOf ws t)) 0) (both-right a b two)))
+        let holder = holderAt ws test t in
+        let waiter = waiterAt ws (countIn ws) test t in
+        let is-open = not (eqb (phaseOf (rowOf ws t)) 0) in
+        let in-line = any (eqb t) (firstInLine ws (countIn ws)) in (
+          eqb-false t s (not-true (eqb t s) (both-left a (holder || waiter) e)),
+          ⊎-elim
+              (λ x. inl (eqb-false (phaseOf (rowOf ws t)) 0 (not-true (eqb (phaseOf (rowOf ws t)) 0) (both-left is-open (test (rowOf ws t)) x))))
+              (λ x. inr (both-left in-line (test (waitingIn (rowOf ws t))) x))
+              (either-cases holder waiter (both-right a (holder || waiter) e)),
+        )
 
-    grants : (q : Wanted) (t : Option ℕ) → least (inTheWay text ws s q) 8 ≡ t → Good (grantedOr text ws values s q t)
-    grants q none e = starts q (firstOf text (tablesOf ws) q)
-    grants q (some t) e =
-        let found = least-some (inTheWay text ws s q) 8 t e in
-        let way = in-the-way q t (found .1) in
-        record { kept = (refl, refl); past = refl; holder = (found .0, way .0, way .1); number = tt }
+    joins-or : (q : Wanted) (t : ℕ) → (t < 8) × (inTheWay text ws (countIn ws) s q t ≡ true) → Good (joinedOr text ws values s q t)
+    joins-or q t found = go (leb 8 (countIn ws)) refl
+      where
+        go : (b : Bool) → leb 8 (countIn ws) ≡ b → Good (cond b (refused ws values 24) (joinedAt text ws values s q t))
+        go true e = refuses 24 (omega arith) (omega arith)
+        go false e =
+            let few = leb-false 8 (countIn ws) e in
+            let way = in-the-way q t (found .1) in
+            record {
+              kept = joins text ws s h q (countIn ws) few values refl;
+              past = joins-past text ws s h q (countIn ws) few;
+              holder = (found .0, way .0, way .1);
+              number = tt;
+            }
+
+    arrives : (q : Wanted) (t : Option ℕ) → least (inTheWay text ws (countIn ws) s q) 8 ≡ t → Good (arrivedOr text ws values s q t)
+    arrives q none e = starts q (firstOf text (tablesOf ws) q)
+    arrives q (some t) e = joins-or q t (least-some (inTheWay text ws (countIn ws) s q) 8 t e)
+
+    grants : (q : Wanted) → Good (granted text ws values s q)
+    unfolding granted obstacle
+    grants q = go (ownsLocks text (tablesOf ws) q (rowOf ws s))
+      where
+        go : (b : Bool) → Good (grantedOr text ws values s q b)
+        go true = starts q (firstOf text (tablesOf ws) q)
+        go false = arrives q (least (inTheWay text ws (countIn ws) s q) 8) refl
 
     sends-to : (kind n c k a : ℕ) → Good (sentTo text ws values s kind n c k a)
     unfolding sentTo
@@ -141,11 +176,11 @@ module _ (text ws values : List ℕ) (s : ℕ) where
         q : Wanted
         q = wanted (tablesOf ws) kind n c k a
 
-        go : (x y z : Bool) → Good (cond x (refused ws values 24) (cond y (refused ws values 36) (cond z (refused ws values 24) (grantedOr text ws values s q (least (inTheWay text ws s q) 8)))))
+        go : (x y z : Bool) → Good (cond x (refused ws values 24) (cond y (refused ws values 36) (cond z (refused ws values 24) (granted text ws values s q))))
         go true y z = refuses 24 (omega arith) (omega arith)
         go false true z = refuses 36 (omega arith) (omega arith)
         go false false true = refuses 24 (omega arith) (omega arith)
-        go false false false = grants q (least (inTheWay text ws s q) 8) refl
+        go false false false = grants q
 
     sends-there : (b : Bool) (kind n c k a : ℕ) → Good (cond b (sentTo text ws values s kind n c k a) (refused ws values 36))
     sends-there true kind n c k a = sends-to kind n c k a
@@ -161,10 +196,14 @@ module _ (text ws values : List ℕ) (s : ℕ) where
     carried-past : (t : Turn) → drop stateWords (withRow ws s (carried (rowOf ws s) values t .row)) ≡ drop stateWords ws
     carried-past t = row-past (carried (rowOf ws s) values t .row) (carried-length (rowOf ws s) values t own)
 
-    steps : (t : Turn) → Good (laid ws s (carried (rowOf ws s) values t))
+    -- The row, and then the line woken.
+    woken-row : (row : List ℕ) → length row ≡ rowWords → drop stateWords (woken text (withRow ws s row)) ≡ drop stateWords ws
+    woken-row row size = woken-past text (withRow ws s row) (omega (arith, length-sets ws (rowStart s) row, h .long)) .1 ∙ row-past row size
+
+    steps : (t : Turn) → Good (laid text ws s (carried (rowOf ws s) values t))
     unfolding carried
     steps Row.misfit = record { kept = (with-own ws s h, refl); past = carried-past Row.misfit; holder = tt; number = (omega arith, omega arith) }
-    steps Row.stop = record { kept = tt; past = carried-past Row.stop; holder = tt; number = tt }
+    steps Row.stop = record { kept = tt; past = woken-row (freed (rowOf ws s)) (freed-long (rowOf ws s) own); holder = tt; number = tt }
     steps Row.skip = record { kept = tt; past = carried-past Row.skip; holder = tt; number = tt }
     steps (Row.assign how k v) = record { kept = tt; past = carried-past (Row.assign how k v); holder = tt; number = tt }
     steps (Row.call first end a) = record { kept = tt; past = carried-past (Row.call first end a); holder = tt; number = tt }
@@ -173,8 +212,14 @@ module _ (text ws values : List ℕ) (s : ℕ) where
     steps (Row.next o first end sum) = record { kept = tt; past = carried-past (Row.next o first end sum); holder = tt; number = tt }
     steps (Row.answer v) = record { kept = tt; past = carried-past (Row.answer v); holder = tt; number = tt }
 
-    frees : (values′ : List ℕ) → Good (record { answered = done; words = withRow ws s (freed (rowOf ws s)); values = values′ })
-    frees values′ = record { kept = tt; past = row-past (freed (rowOf ws s)) (freed-long (rowOf ws s) own); holder = tt; number = tt }
+    frees : (row values′ : List ℕ) → length row ≡ rowWords → Good (record { answered = done; words = endedAt text ws s row; values = values′ })
+    frees row values′ size = record { kept = tt; past = woken-row (freed row) (freed-long row size); holder = tt; number = tt }
+
+    ends : (values′ : List ℕ) → Good (record { answered = done; words = endedAt text ws s (rowOf ws s); values = values′ })
+    ends values′ = frees (rowOf ws s) values′ own
+
+    withdraws : Good (undoneAt text ws values s (withdrawn (rowOf ws s)))
+    withdraws = frees (withdrawn (rowOf ws s)) (putBack (noteAt (withdrawn (rowOf ws s))) values) (withdrawn-length (rowOf ws s) ∙ own)
 
 -- ---- by the phase of its slot
 
@@ -188,21 +233,29 @@ module _ (text ws values : List ℕ) where
   idle-keeps : (c : Call) → Within ws (slotIn c) → Keeps ws values (slotIn c) (onIdle text ws values c)
   idle-keeps (send s q) h = sends text ws values s h q
   idle-keeps (step s) h = refuses text ws values s 35 (omega arith) (omega arith)
-  idle-keeps (commit s) h = frees text ws values s h values
-  idle-keeps (abort s) h = frees text ws values s h (putBack (noteAt (rowOf ws s)) values)
+  idle-keeps (commit s) h = ends text ws values s h values
+  idle-keeps (abort s) h = ends text ws values s h (putBack (noteAt (rowOf ws s)) values)
 
   running-keeps : (c : Call) → Within ws (slotIn c) → Keeps ws values (slotIn c) (onRunning text ws values c)
   running-keeps (send s q) h = refuses text ws values s 34 (omega arith) (omega arith)
   running-keeps (step s) h = steps text ws values s h (decided text (tablesOf ws) (rowOf ws s) values)
   running-keeps (commit s) h = refuses text ws values s 34 (omega arith) (omega arith)
-  running-keeps (abort s) h = frees text ws values s h (putBack (noteAt (rowOf ws s)) values)
+  running-keeps (abort s) h = ends text ws values s h (putBack (noteAt (rowOf ws s)) values)
 
-  phase-keeps : (c : Call) → Within ws (slotIn c) → (x y z : Bool)
-      → Keeps ws values (slotIn c) (cond x (onClosed text ws values c) (cond y (onIdle text ws values c) (cond z (onRunning text ws values c) (refused ws values 24))))
-  phase-keeps c h true y z = closed-keeps c h
-  phase-keeps c h false true z = idle-keeps c h
-  phase-keeps c h false false true = running-keeps c h
-  phase-keeps c h false false false = refuses text ws values (slotIn c) 24 (omega arith) (omega arith)
+  waiting-keeps : (c : Call) → Within ws (slotIn c) → Keeps ws values (slotIn c) (onWaiting text ws values c)
+  waiting-keeps (send s q) h = refuses text ws values s 37 (omega arith) (omega arith)
+  waiting-keeps (step s) h = refuses text ws values s 37 (omega arith) (omega arith)
+  waiting-keeps (commit s) h = refuses text ws values s 37 (omega arith) (omega arith)
+  waiting-keeps (abort s) h = withdraws text ws values s h
+
+  phase-keeps : (c : Call) → Within ws (slotIn c) → (x y z u : Bool)
+      → Keeps ws values (slotIn c) (cond x (onClosed text ws values c) (cond y (onIdle text ws values c)
+      (cond z (onRunning text ws values c) (cond u (onWaiting text ws values c) (refused ws values 24)))))
+  phase-keeps c h true y z u = closed-keeps c h
+  phase-keeps c h false true z u = idle-keeps c h
+  phase-keeps c h false false true u = running-keeps c h
+  phase-keeps c h false false false true = waiting-keeps c h
+  phase-keeps c h false false false false = refuses text ws values (slotIn c) 24 (omega arith) (omega arith)
 
   misfit-keeps : (c : Call) (m : ℕ) → misfitOf text ws values ≡ suc m → Keeps ws values (slotIn c) (refused ws values (suc m))
   unfolding misfitOf
@@ -226,4 +279,4 @@ module _ (text ws values : List ℕ) where
       go (suc m) e b q = rw (eqb·suc-zero m) (misfit-keeps c m e)
       go zero e true q = refuses text ws values (slotIn c) 31 (omega arith) (omega arith)
       go zero e false q =
-          phase-keeps c (record { slot = leb-false 8 (slotIn c) q; long = fit-is text ws values e .long }) (eqb phase 0) (eqb phase 1) (eqb phase 2)
+          phase-keeps c (record { slot = leb-false 8 (slotIn c) q; long = fit-is text ws values e .long }) (eqb phase 0) (eqb phase 1) (eqb phase 2) (eqb phase 3)

@@ -2,9 +2,11 @@ pub mod Answers
 pub mod Lines
 pub mod Laws
 pub mod Start
+pub mod Joined
 pub mod Keeps
 pub mod Promises
 pub mod Made
 pub mod PlainCourse
 pub mod Seen
+pub mod Line
 pub mod Steps

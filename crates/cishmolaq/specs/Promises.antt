@@ -19,13 +19,13 @@ use Rattle.cishmolaq.specs.Keeps.{Kept, Holder, Numbered, Keeps, every-c
 pub record Does (text ws values : List ℕ) (c : Call) (r : Outcome) (ws′ values′ : List ℕ) : Type 0 where
   -- Demand 1: "a call gives 24 or follows the rules below on what it finds", whatever is lent, as the definition says.
   pub any : Leaves (called text ws values c) r ws′ values′
-  -- With every number but 41 the words and the values are unchanged.
-  pub kept : Kept (told r) ws values ws′ values′
+  -- With every number but 40 and 41 the words and the values are unchanged; 40 leaves the slot waiting, the last in line, and nothing else altered.
+  pub kept : Kept (slotIn c) (told r) ws values ws′ values′
   -- What lies past the machine's words is unchanged.
   pub past : drop stateWords ws′ ≡ drop stateWords ws
-  -- 40 names another slot, which is open in the lent words.
+  -- 40 names another slot, which is open or in line in the lent words.
   pub holder : Holder ws (slotIn c) (told r)
-  -- A refusal's number is one of 21 to 36.
+  -- A refusal's number is one of 21 to 37.
   pub number : Numbered (told r)
   -- Demand 2: on what start and the calls left, the words represent a world of the machine, and the answer is the model's ..
   pub says : (p : Program) (w : World (service p)) → Rep text ws values p w → told r ≡ call p w c .0
@@ -40,9 +40,9 @@ pub promised : (text ws values : List ℕ) (c : Call) (r : Outcome) (ws′ value
 promised text ws values c r ws′ values′ h = record {
   any = h;
   kept =
-      subst (λ (l : List ℕ). Kept (told r) ws values l values′) (sym (h .words-are))
-      (subst (λ (l : List ℕ). Kept (told r) ws values (x .words) l) (sym (h .values-are))
-      (subst (λ (a : Answer). Kept a ws values (x .words) (x .values)) (sym (h .says)) (all .kept)));
+      subst (λ (l : List ℕ). Kept (slotIn c) (told r) ws values l values′) (sym (h .words-are))
+      (subst (λ (l : List ℕ). Kept (slotIn c) (told r) ws values (x .words) l) (sym (h .values-are))
+      (subst (λ (a : Answer). Kept (slotIn c) a ws values (x .words) (x .values)) (sym (h .says)) (all .kept)));
   past = ap (drop stateWords) (h .words-are) ∙ all .past;
   holder = subst (Holder ws (slotIn c)) (sym (h .says)) (all .holder);
   number = subst Numbered (sym (h .says)) (all .number);

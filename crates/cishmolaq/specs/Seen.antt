@@ -12,12 +12,13 @@ use Rattle.model.specs.Course.{Course, course}
 use Rattle.laws.specs.Basics.{All, In}
 use Rattle.twophase.specs.Claims.{Right}
 use Rattle.twophase.specs.Moves.{IsOpen, Ends, moves, ends-open}
-use Rattle.twophase.specs.Aborts.{aborts-close, aborts-fields, fed-append}
+use Rattle.twophase.specs.Line.{open-closed}
+use Rattle.twophase.specs.Aborts.{line-open, aborts-close, aborts-fields, fed-append}
 use Rattle.theory.specs.VectorLaws.{program-compiled}
 use Rattle.theory.specs.CommitOrder.{left}
-use Rattle.machine_words.specs.Calls.{tablesOf, rowOf, phaseOf}
-use Rattle.machine_refinement.specs.Rep.{SlotRep, Rep, Fresh}
-use Rattle.machine_refinement.specs.State.{open-phase}
+use Rattle.machine_words.specs.Calls.{rowOf, phaseOf}
+use Rattle.machine_refinement.specs.Rep.{Rep, Fresh}
+use Rattle.machine_refinement.specs.State.{phase-closed}
 use Rattle.machine_refinement.specs.Course.{AfterAll, calledAll, all-refine}
 use Rattle.machine_refinement.specs.Moment.{notesBack, AtMoment, at-moment}
 use Rattle.machine_checks.specs.declared.Outcome.{Outcome}
@@ -115,7 +116,7 @@ what-was-seen text values state r ws begins e {cs} {rs} {ws′} {values′} made
 
     -- A slot that is open in the world is open in the words.
     opened-in : (s : ℕ) → s < 8 → (t : Transaction (service p)) → w .slots s ≡ opened t → OpenIn ws′ s
-    opened-in s h t q = (h, open-phase text (tablesOf ws′) p (rowOf ws′ s) t (subst (SlotRep text (tablesOf ws′) p (rowOf ws′ s)) q (rep .slots s h)))
+    opened-in s h t q = (h, λ z. open-closed (service p) t (sym q ∙ phase-closed text ws′ values′ p w rep s h z))
 
     ended : (s : ℕ) → IsOpen (service p) w s → GotAlone text (course text values cs (map told rs)) s
     ended s o = alone s (opened-in s (o .2) (o .0) (o .1))
@@ -129,7 +130,7 @@ what-was-seen text values state r ws begins e {cs} {rs} {ws′} {values′} made
         let rep₂ : Rep text ws₂ values₂ p w₂ =
         subst (λ (l : List ℕ). Rep text l values₂ p w₂) (sym (n .1))
         (subst (λ (l : List ℕ). Rep text (y .words) l p w₂) (sym (n .2)) (all-refine text ws′ values′ p w rep (map abort ss) .1)) in
-        all-closed text ws₂ values₂ p w₂ rep₂ (aborts-close (service p) ss w (λ s h t q. all s (opened-in s h t q)))
+        all-closed text ws₂ values₂ p w₂ rep₂ (aborts-close (service p) ss w (line-open (service p) values cs) (λ s h t q. all s (opened-in s h t q)))
 
     values-are : (ss : List ℕ) {rs₂ : List Outcome} {ws₂ values₂ : List ℕ} → Made text ws′ values′ (map abort ss) rs₂ ws₂ values₂ → NothingOpen ws₂
         → values₂ ≡ course text values cs (map told rs) .fields

@@ -1,6 +1,6 @@
 // The public entries. Those over a text (its verdict, its image, its statements, its starting values, the lines that `tables`
 // prints, a start on it) read the text anew into tables of their own. The calls of the machine work on the lent state. Each is
-// total, and writes to what is lent only where it gives no number, or 41.
+// total, and writes to what is lent only where it gives no number, 40 or 41.
 use machine_checks::Outcome;
 use machine_locks::request::Target;
 use reader::Verdict;
@@ -201,7 +201,7 @@ fn start_on(text: &[u8], tables: &mut [u32], values: &[u32], state: &mut [u32]) 
     }
 }
 
-// Starts the machine on a text and its values: the tables of the text and eight closed slots, in the lent state. 21 where
+// Starts the machine on a text and its values: the tables of the text, eight closed slots and an empty line, in the lent state. 21 where
 // the state is too short, 22 where the list of values has another length.
 pub fn start(text: &[u8], values: &[u32], state: &mut [u32]) -> Answer
     ensures { λ r. ⌜ Begins (now (text .entry)) (now (values .entry)) (now (state .entry)) r (now (state .exit)) ⌝ }
@@ -214,8 +214,9 @@ pub fn start(text: &[u8], values: &[u32], state: &mut [u32]) -> Answer
     }
 }
 
-// Sends a message to a target: the method at a place of its class, with an argument. 40 with the lowest slot whose locks
-// clash; else a closed slot is opened, the transaction has the send's locks until commit or abort, and the message is at its start.
+// Sends a message to a target: the method at a place of its class, with an argument. Granted, it opens a closed slot, the transaction
+// has the send's locks until commit or abort, and the message is at its start. 40 with the lowest slot that it clashes with, holder or
+// earlier waiter: the slot is then open and waits, the last in line.
 pub fn send(
     text: &[u8],
     state: &mut [u32],
@@ -237,14 +238,14 @@ pub fn step(text: &[u8], state: &mut [u32], values: &mut [u32], slot: u32) -> Ou
     machine_calls::step::step(text, state, values, slot)
 }
 
-// Frees the slot and keeps the values.
+// Ends the slot's transaction and keeps the values. Those who wait are woken.
 pub fn commit(text: &[u8], state: &mut [u32], values: &[u32], slot: u32) -> Outcome
     ensures { λ r. ⌜ Does (now (text .entry)) (now (state .entry)) (now (values .entry)) (commit slot) r (now (state .exit)) (now (values .entry)) ⌝ }
 {
     machine_calls::commit(text, state, values, slot)
 }
 
-// Puts back each value that the transaction set, and frees the slot.
+// Undoes the slot's transaction: puts back the values, withdraws a waiting send, and frees the slot. Those who wait are woken.
 pub fn abort(text: &[u8], state: &mut [u32], values: &mut [u32], slot: u32) -> Outcome
     ensures { λ r. ⌜ Does (now (text .entry)) (now (state .entry)) (now (values .entry)) (abort slot) r (now (state .exit)) (now (values .exit)) ⌝ }
 {

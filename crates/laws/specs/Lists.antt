@@ -9,7 +9,7 @@ use mathlib.Core.List.{List, [], _∷_, _++_, map, flatMap, List·Memᴰ, List·
 use lib.ListN.{length, getD, take, drop, length-append, List·getD-append}
 use lib.Dec.{T, eqb, ltb, eqb→eq, eqb-refl, ltb→lt}
 use lib.Seq.{getD-at}
-use Rattle.model.specs.Base.{same, any, keep, firstAt, alter, upto}
+use Rattle.model.specs.Base.{same, any, every, keep, firstAt, alter, upto}
 
 -- ---- tests
 
@@ -20,7 +20,7 @@ passed false t = absurd t
 pass : (b : Bool) → b ≡ true → T b
 pass b e = subst T (sym e) tt
 
--- What follows where both of two tests pass, and where neither does.
+-- What follows where both of two tests pass, where one does, and where neither does.
 pub both-left : (a b : Bool) → a && b ≡ true → a ≡ true
 both-left true b e = refl
 both-left false b e = e
@@ -29,11 +29,22 @@ pub both-right : (a b : Bool) → a && b ≡ true → b ≡ true
 both-right true b e = e
 both-right false b e = absurd (false≢true e)
 
-neither-left : (a b : Bool) → a || b ≡ false → a ≡ false
+pub either-cases : (a b : Bool) → a || b ≡ true → (a ≡ true) ⊎ (b ≡ true)
+either-cases true b e = inl refl
+either-cases false b e = inr e
+
+pub either-left : (a b : Bool) → a ≡ true → a || b ≡ true
+either-left a b e = ap (λ (x : Bool). x || b) e
+
+pub either-right : (a b : Bool) → b ≡ true → a || b ≡ true
+either-right true b e = refl
+either-right false b e = e
+
+pub neither-left : (a b : Bool) → a || b ≡ false → a ≡ false
 neither-left true b e = e
 neither-left false b e = refl
 
-neither-right : (a b : Bool) → a || b ≡ false → b ≡ false
+pub neither-right : (a b : Bool) → a || b ≡ false → b ≡ false
 neither-right true b e = absurd (true≢false e)
 neither-right false b e = e
 
@@ -100,6 +111,12 @@ module _ {A : Type 0} where
       go : (b : Bool) → any p xs ≡ b → any p xs ≡ true
       go true e = e
       go false e = absurd (true≢false (sym q ∙ any-none p m e))
+
+  -- Each member passes where `every` does.
+  pub every-member : (p : A → Bool) {xs : List A} {x : A} → List·Memᴰ x xs → every p xs ≡ true → p x ≡ true
+  unfolding every
+  every-member p (List·Memᴰ·head {x = y} {xs = ys} e) q = ap p e ∙ both-left (p y) (every p ys) q
+  every-member p (List·Memᴰ·tail {x = y} {xs = ys} m) q = every-member p m (both-right (p y) (every p ys) q)
 
   -- `keep` has exactly the members that pass.
   pub in-keep : (p : A → Bool) (xs : List A) {x : A} → List·Memᴰ x (keep p xs) → List·Memᴰ x xs × (p x ≡ true)
@@ -327,6 +344,12 @@ same-test true true f g = refl
 same-test true false f g = sym (f refl)
 same-test false true f g = g refl
 same-test false false f g = refl
+
+pub fail-together : (a b : Bool) → (a ≡ false → b ≡ false) → (b ≡ false → a ≡ false) → a ≡ b
+fail-together true true f g = refl
+fail-together true false f g = g refl
+fail-together false true f g = sym (f refl)
+fail-together false false f g = refl
 
 pub not-of : (b : Bool) → b ≡ false → not b ≡ true
 not-of b e = ap not e

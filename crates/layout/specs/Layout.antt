@@ -177,9 +177,16 @@ lockMarksAt = 10
 abbrev pub calledAt : ℕ
 calledAt = 11
 
--- Words 12 to 15 are spare: a lock on a whole class (Ticket 12), a waiting send's place and class (7), a lab (13).
+-- Words 12 and 15 are spare, and in a row 13 and 14 too: a waiting send's words have the class with its method and the method's place
+-- there.
 abbrev pub headSpareAt : ℕ
 headSpareAt = 12
+
+abbrev pub classAt : ℕ
+classAt = 13
+
+abbrev pub placeAt : ℕ
+placeAt = 14
 
 -- An activation: its next statement, the statement past its last, its arg, its got, its reply.
 abbrev pub activationsAt : ℕ
@@ -228,13 +235,19 @@ marksAt = wholeLocksAt + classesMost
 abbrev pub setMarksAt : ℕ
 setMarksAt = marksAt + valuesMost / 32
 
--- Spare: a waiting send with its locks, laid out as the words before the marks are (Ticket 7), a note for each object's number and
--- its marks (12).
+-- A waiting send with its locks, laid out as the words before the marks are; 0 where the slot does not wait.
+abbrev pub waitingAt : ℕ
+waitingAt = setMarksAt + valuesMost / 32
+
+abbrev pub waitingWords : ℕ
+waitingWords = marksAt
+
+-- Spare: a note for each object's number and its marks.
 abbrev pub spareAt : ℕ
-spareAt = setMarksAt + valuesMost / 32
+spareAt = waitingAt + waitingWords
 
 abbrev pub spareWords : ℕ
-spareWords = marksAt + (objectsMost + objectsMost / 32)
+spareWords = objectsMost + objectsMost / 32
 
 abbrev pub notesAt : ℕ
 notesAt = spareAt + spareWords
@@ -242,7 +255,13 @@ notesAt = spareAt + spareWords
 abbrev pub rowWords : ℕ
 rowWords = notesAt + valuesMost
 
--- ---- the state: the tables, then the rows of the slots, then nine words that are spare: the line of waiting slots (Ticket 7)
+-- ---- the state: the tables, then the rows of the slots, then the line: how many slots wait, and which, the first to arrive first
+
+abbrev pub lineAt : ℕ
+lineAt = tableWords + slotsMost * rowWords
+
+abbrev pub firstInLineAt : ℕ
+firstInLineAt = lineAt + 1
 
 abbrev pub lineWords : ℕ
 lineWords = 1 + slotsMost

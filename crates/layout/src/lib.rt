@@ -126,8 +126,13 @@ pub const LOCK_MARKS_AT: usize = 10;
 // 1 where a self-call was made.
 pub const CALLED_AT: usize = 11;
 
-// Words 12 to 15 are spare: a lock on a whole class (Ticket 12), a waiting send's place and class (7), a lab (13).
+// Words 12 and 15 are spare, and in a row 13 and 14 too: a waiting send's words have the class with its method and the method's place
+// there.
 pub const HEAD_SPARE_AT: usize = 12;
+
+pub const CLASS_AT: usize = 13;
+
+pub const PLACE_AT: usize = 14;
 
 // An activation: its next statement, the statement past its last, its arg, its got, its reply.
 pub const ACTIVATIONS_AT: usize = 16;
@@ -162,17 +167,25 @@ pub const MARKS_AT: usize = WHOLE_LOCKS_AT + CLASSES as usize;
 
 pub const SET_MARKS_AT: usize = MARKS_AT + VALUES / 32;
 
-// Spare: a waiting send with its locks, laid out as the words before the marks are (Ticket 7), a note for each object's number and
-// its marks (12).
-pub const SPARE_AT: usize = SET_MARKS_AT + VALUES / 32;
+// A waiting send with its locks, laid out as the words before the marks are; 0 where the slot does not wait.
+pub const WAITING_AT: usize = SET_MARKS_AT + VALUES / 32;
 
-pub const SPARE_WORDS: usize = MARKS_AT + (OBJECTS as usize + OBJECTS as usize / 32);
+pub const WAITING_WORDS: usize = MARKS_AT;
+
+// Spare: a note for each object's number and its marks.
+pub const SPARE_AT: usize = WAITING_AT + WAITING_WORDS;
+
+pub const SPARE_WORDS: usize = OBJECTS as usize + OBJECTS as usize / 32;
 
 pub const NOTES_AT: usize = SPARE_AT + SPARE_WORDS;
 
 pub const ROW_WORDS: usize = NOTES_AT + VALUES;
 
-// ---- the state: the tables, then the rows of the slots, then nine words that are spare: the line of waiting slots (Ticket 7)
+// ---- the state: the tables, then the rows of the slots, then the line: how many slots wait, and which, the first to arrive first
+
+pub const LINE_AT: usize = TABLE_WORDS + SLOTS as usize * ROW_WORDS;
+
+pub const FIRST_IN_LINE_AT: usize = LINE_AT + 1;
 
 pub const LINE_WORDS: usize = 1 + SLOTS as usize;
 

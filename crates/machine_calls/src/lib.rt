@@ -7,30 +7,61 @@ use machine_checks::Outcome;
 ghost use mathlib.Core.Path.{_≡_};
 ghost use Rattle.model.specs.Undo.{putBack};
 ghost use Rattle.model.specs.Service.{commit, abort};
-ghost use Rattle.machine_words.specs.Row.{noteAt, freed};
-ghost use Rattle.machine_words.specs.Calls.{rowOf, withRow, called};
+ghost use Rattle.machine_words.specs.Row.{noteAt};
+ghost use Rattle.machine_words.specs.Line.{rowOf, withdrawn};
+ghost use Rattle.machine_words.specs.Calls.{endedAt, called};
 ghost use Rattle.machine_checks.specs.Told.{Leaves};
 ghost use Rattle.machine_checks.specs.Lent.{Within};
 
-// Clears what the slot's transaction wrote in its row.
-fn close_slot(state: &mut [u32], slot: u32)
+// Clears what the slot's transaction wrote in its row, and wakes those who wait.
+fn close_and_wake(text: &[u8], state: &mut [u32], slot: u32)
     requires { ⌜ Within (now state) slot ⌝ }
-    ensures { λ _. ⌜ now (state .exit) ≡ withRow (now (state .entry)) slot (freed (rowOf (now (state .entry)) slot)) ⌝ }
+    ensures { λ _. ⌜ now (state .exit) ≡ endedAt (now (text .entry)) (now (state .entry)) slot (rowOf (now (state .entry)) slot) ⌝ }
 {
+    let start = layout::TABLE_WORDS + slot as usize * layout::ROW_WORDS;
+    let end = start + layout::ROW_WORDS;
+    machine_locks::release::close(&mut state[start..end]);
+    machine_locks::wake::wake(text, state);
+}
+
+// Does the same. Mostly nobody waits; then clearing the row is all there is to do.
+fn close_slot(text: &[u8], state: &mut [u32], slot: u32)
+    requires { ⌜ Within (now state) slot ⌝ }
+    ensures { λ _. ⌜ now (state .exit) ≡ endedAt (now (text .entry)) (now (state .entry)) slot (rowOf (now (state .entry)) slot) ⌝ }
+{
+    if machine_locks::line::waiting_count(state) != 0 {
+        close_and_wake(text, state, slot);
+        return;
+    }
     let start = layout::TABLE_WORDS + slot as usize * layout::ROW_WORDS;
     let end = start + layout::ROW_WORDS;
     machine_locks::release::close(&mut state[start..end]);
 }
 
-// Undoes the slot's transaction.
-fn roll_back(state: &mut [u32], values: &mut [u32], slot: u32)
+// Undoes the slot's transaction, and wakes those who wait.
+fn roll_back(text: &[u8], state: &mut [u32], values: &mut [u32], slot: u32)
     requires { ⌜ Within (now state) slot ⌝ }
-    ensures { λ _. ⌜ (now (state .exit) ≡ withRow (now (state .entry)) slot (freed (rowOf (now (state .entry)) slot)))
+    ensures { λ _. ⌜ (now (state .exit) ≡ endedAt (now (text .entry)) (now (state .entry)) slot (rowOf (now (state .entry)) slot))
         × (now (values .exit) ≡ putBack (noteAt (rowOf (now (state .entry)) slot)) (now (values .entry))) ⌝ }
 {
     let start = layout::TABLE_WORDS + slot as usize * layout::ROW_WORDS;
     let end = start + layout::ROW_WORDS;
     machine_locks::release::roll_back(&mut state[start..end], values);
+    machine_locks::wake::wake(text, state);
+}
+
+// Withdraws the slot's waiting send, then undoes its transaction and wakes those who wait.
+fn roll_back_waiting(text: &[u8], state: &mut [u32], values: &mut [u32], slot: u32)
+    requires { ⌜ Within (now state) slot ⌝ }
+    ensures { λ _. ⌜ (now (state .exit) ≡ endedAt (now (text .entry)) (now (state .entry)) slot (withdrawn (rowOf (now (state .entry)) slot)))
+        × (now (values .exit) ≡ putBack (noteAt (withdrawn (rowOf (now (state .entry)) slot))) (now (values .entry))) ⌝ }
+{
+    let start = layout::TABLE_WORDS + slot as usize * layout::ROW_WORDS;
+    let end = start + layout::ROW_WORDS;
+    let row = &mut state[start..end];
+    machine_locks::wait::withdraw(row);
+    machine_locks::release::roll_back(row, values);
+    machine_locks::wake::wake(text, state);
 }
 
 // Frees a slot and keeps the values.
@@ -41,11 +72,10 @@ pub fn commit(text: &[u8], state: &mut [u32], values: &[u32], slot: u32) -> Outc
     if refused != 0 {
         return Outcome::Refused(refused);
     }
-    let phase = machine_checks::phase_of(state, slot);
-    if phase == 0 {
+    if machine_checks::phase_of(state, slot) == 0 {
         return Outcome::Refused(32);
     }
-    close_slot(state, slot);
+    close_slot(text, state, slot);
     Outcome::Done
 }
 
@@ -57,9 +87,14 @@ pub fn abort(text: &[u8], state: &mut [u32], values: &mut [u32], slot: u32) -> O
     if number != 0 {
         return Outcome::Refused(number);
     }
-    if machine_checks::phase_of(state, slot) == 0 {
+    let phase = machine_checks::phase_of(state, slot);
+    if phase == 0 {
         return Outcome::Refused(32);
     }
-    roll_back(state, values, slot);
+    if phase == 3 {
+        roll_back_waiting(text, state, values, slot);
+        return Outcome::Done;
+    }
+    roll_back(text, state, values, slot);
     Outcome::Done
 }

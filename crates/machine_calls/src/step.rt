@@ -1,23 +1,30 @@
 // The call step: the next statement of a slot's message, or the end of a body.
 use machine_apply::Said;
 use machine_checks::Outcome;
+ghost use Prim.Native.Nat.{_≤_};
 ghost use mathlib.Core.Path.{_≡_};
+ghost use lib.ListN.{length};
+ghost use Rattle.layout.specs.Layout.{stateWords};
 ghost use Rattle.model.specs.Service.{step};
 ghost use Rattle.machine_words.specs.Row.{carried};
 ghost use Rattle.machine_words.specs.Turn.{decided};
-ghost use Rattle.machine_words.specs.Calls.{tablesOf, rowOf, laid, called};
+ghost use Rattle.machine_words.specs.Calls.{tablesOf, rowOf, wokenBy, laid, called};
 ghost use Rattle.machine_apply.specs.Carried.{said};
 ghost use Rattle.machine_checks.specs.Told.{told, Leaves};
 ghost use Rattle.machine_checks.specs.Lent.{Within};
 
-// The outcome for what a step answers.
-fn outcome_of(step: Said) -> Outcome
-    ensures { λ r. ⌜ told r ≡ said step ⌝ }
+// The outcome for what a step answers. A message that stops ends its transaction, which wakes those who wait.
+fn end_step(text: &[u8], state: &mut [u32], step: Said) -> Outcome
+    requires { ⌜ stateWords ≤ length (now state) ⌝ }
+    ensures { λ r. ⌜ (told r ≡ said step) × (now (state .exit) ≡ wokenBy (said step) (now (text .entry)) (now (state .entry))) ⌝ }
 {
     match step {
         Said::Unfit => Outcome::Refused(24),
         Said::Going => Outcome::Going,
-        Said::Halted => Outcome::Stopped,
+        Said::Halted => {
+            machine_locks::wake::wake(text, state);
+            Outcome::Stopped
+        }
         Said::Answered(value) => Outcome::Answer(value),
     }
 }
@@ -25,7 +32,7 @@ fn outcome_of(step: Said) -> Outcome
 // Runs the next step of a slot's message: decides it, then carries it out.
 fn advance(text: &[u8], state: &mut [u32], values: &mut [u32], slot: u32) -> Outcome
     requires { ⌜ Within (now state) slot ⌝ }
-    ensures { λ r. ⌜ Leaves (laid (now (state .entry)) slot (carried (rowOf (now (state .entry)) slot) (now (values .entry))
+    ensures { λ r. ⌜ Leaves (laid (now (text .entry)) (now (state .entry)) slot (carried (rowOf (now (state .entry)) slot) (now (values .entry))
         (decided (now (text .entry)) (tablesOf (now (state .entry))) (rowOf (now (state .entry)) slot) (now (values .entry))))) r (now (state .exit)) (now (values .exit)) ⌝ }
 {
     let start = layout::TABLE_WORDS + slot as usize * layout::ROW_WORDS;
@@ -37,7 +44,7 @@ fn advance(text: &[u8], state: &mut [u32], values: &mut [u32], slot: u32) -> Out
         values,
     );
     let said = machine_apply::carry(&mut state[start..end], values, turn);
-    outcome_of(said)
+    end_step(text, state, said)
 }
 
 // Runs one statement of a slot's message, or ends a body.
@@ -54,6 +61,9 @@ pub fn step(text: &[u8], state: &mut [u32], values: &mut [u32], slot: u32) -> Ou
     }
     if phase == 1 {
         return Outcome::Refused(35);
+    }
+    if phase == 3 {
+        return Outcome::Refused(37);
     }
     advance(text, state, values, slot)
 }

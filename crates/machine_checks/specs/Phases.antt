@@ -12,7 +12,7 @@ use borrow.Author.Tests.{eq-eqb, ne-eqb, leb-false, ltb-true, ltb-false, lt-ltb,
 use Rattle.layout.specs.Layout.{valuesMost, valueCountAt, textLengthAt, startMarkAt, tableWords, rowWords, stateWords}
 use Rattle.model.specs.Service.{Call}
 use Rattle.model.specs.Machine.{Request}
-use Rattle.machine_words.specs.Calls.{After, mark, rowStart, rowOf, phaseOf, misfitOf, refused, onClosed, onIdle, onRunning, slotIn, byPhase, called}
+use Rattle.machine_words.specs.Calls.{After, mark, rowStart, rowOf, phaseOf, misfitOf, refused, onClosed, onIdle, onRunning, onWaiting, slotIn, byPhase, called}
 use Rattle.machine_words.specs.Rows.{fit-is}
 use Rattle.machine_checks.specs.declared.Outcome.{Outcome}
 use Rattle.machine_checks.specs.Told.{Leaves}
@@ -23,7 +23,7 @@ unfoldable pub firstRefusal : List ℕ → List ℕ → List ℕ → ℕ → ℕ
 unfolding misfitOf rowOf
 firstRefusal text ws values s =
     let misfit = misfitOf text ws values in
-    cond (not (eqb misfit 0)) misfit (cond (leb 8 s) 31 (cond (ltb 2 (phaseOf (rowOf ws s))) 24 0))
+    cond (not (eqb misfit 0)) misfit (cond (leb 8 s) 31 (cond (ltb 3 (phaseOf (rowOf ws s))) 24 0))
 
 -- ---- 21, 24
 
@@ -54,24 +54,24 @@ module _ (text ws values : List ℕ) (s m : ℕ) (e : m ≡ misfitOf text ws val
     first-slot h = rw (← e, z, le-leb 8 s h)
 
     module _ (h : s < 8) (f : ℕ) (q : f ≡ phaseOf (rowOf ws s)) where
-      pub first-phase : 2 < f → 24 ≡ firstRefusal text ws values s
+      pub first-phase : 3 < f → 24 ≡ firstRefusal text ws values s
       unfolding firstRefusal
-      first-phase l = rw (← e, z, lt-leb 8 s h, ← q, lt-ltb 2 f l)
+      first-phase l = rw (← e, z, lt-leb 8 s h, ← q, lt-ltb 3 f l)
 
-      pub first-none : f ≤ 2 → 0 ≡ firstRefusal text ws values s
+      pub first-none : f ≤ 3 → 0 ≡ firstRefusal text ws values s
       unfolding firstRefusal
-      first-none l = rw (← e, z, lt-leb 8 s h, ← q, le-ltb 2 f l)
+      first-none l = rw (← e, z, lt-leb 8 s h, ← q, le-ltb 3 f l)
 
 -- ---- by the phase
 
 module _ (text ws values : List ℕ) (s n : ℕ) (e : n ≡ firstRefusal text ws values s) (z : n ≡ 0) where
-  none-first : (misfitOf text ws values ≡ 0) × (s < 8) × (phaseOf (rowOf ws s) ≤ 2)
+  none-first : (misfitOf text ws values ≡ 0) × (s < 8) × (phaseOf (rowOf ws s) ≤ 3)
   unfolding firstRefusal
-  none-first = go (misfitOf text ws values) refl (leb 8 s) refl (ltb 2 (phaseOf (rowOf ws s))) refl
+  none-first = go (misfitOf text ws values) refl (leb 8 s) refl (ltb 3 (phaseOf (rowOf ws s))) refl
     where
-      go : (m : ℕ) → misfitOf text ws values ≡ m → (a : Bool) → leb 8 s ≡ a → (b : Bool) → ltb 2 (phaseOf (rowOf ws s)) ≡ b
-          → (misfitOf text ws values ≡ 0) × (s < 8) × (phaseOf (rowOf ws s) ≤ 2)
-      go zero p false q false r = (p, leb-false 8 s q, ltb-false 2 (phaseOf (rowOf ws s)) r)
+      go : (m : ℕ) → misfitOf text ws values ≡ m → (a : Bool) → leb 8 s ≡ a → (b : Bool) → ltb 3 (phaseOf (rowOf ws s)) ≡ b
+          → (misfitOf text ws values ≡ 0) × (s < 8) × (phaseOf (rowOf ws s) ≤ 3)
+      go zero p false q false r = (p, leb-false 8 s q, ltb-false 3 (phaseOf (rowOf ws s)) r)
       go zero p false q true r =
           let n24 : firstRefusal text ws values s ≡ 24 = rw (p, q, r) in
           absurd (omega arith)
@@ -86,9 +86,9 @@ module _ (text ws values : List ℕ) (s n : ℕ) (e : n ≡ firstRefusal text ws
   pub within : Within ws s
   within = record { slot = none-first .1; long = fit-is text ws values (none-first .0) .long }
 
--- A phase above 2 is unknown.
-phase-none : (text ws values : List ℕ) (c : Call Request) (f : ℕ) → 2 < f → byPhase text ws values c f ≡ refused ws values 24
-phase-none text ws values c f h = rw (ne-eqb f 0 (λ e. omega arith), ne-eqb f 1 (λ e. omega arith), ne-eqb f 2 (λ e. omega arith))
+-- A phase above 3 is unknown.
+phase-none : (text ws values : List ℕ) (c : Call Request) (f : ℕ) → 3 < f → byPhase text ws values c f ≡ refused ws values 24
+phase-none text ws values c f h = rw (ne-eqb f 0 (λ e. omega arith), ne-eqb f 1 (λ e. omega arith), ne-eqb f 2 (λ e. omega arith), ne-eqb f 3 (λ e. omega arith))
 
 module _ (text ws values : List ℕ) (c : Call Request) (n : ℕ) (e : n ≡ firstRefusal text ws values (slotIn c)) where
   abbrev row-phase : ℕ
@@ -96,13 +96,13 @@ module _ (text ws values : List ℕ) (c : Call Request) (n : ℕ) (e : n ≡ fir
 
   pub refused-first : (n ≡ 0 → ⊥) → refused ws values n ≡ called text ws values c
   unfolding called firstRefusal
-  refused-first z = go (eqb (misfitOf text ws values) 0) refl (leb 8 (slotIn c)) refl (ltb 2 row-phase) refl
+  refused-first z = go (eqb (misfitOf text ws values) 0) refl (leb 8 (slotIn c)) refl (ltb 3 row-phase) refl
     where
-      go : (a : Bool) → eqb (misfitOf text ws values) 0 ≡ a → (b : Bool) → leb 8 (slotIn c) ≡ b → (d : Bool) → ltb 2 row-phase ≡ d
+      go : (a : Bool) → eqb (misfitOf text ws values) 0 ≡ a → (b : Bool) → leb 8 (slotIn c) ≡ b → (d : Bool) → ltb 3 row-phase ≡ d
           → refused ws values n ≡ called text ws values c
       go false p b q d r = rw p (ap (refused ws values) (e ∙ rw p))
       go true p true q d r = rw (p, q) (ap (refused ws values) (e ∙ rw (p, q)))
-      go true p false q true r = rw (p, q) (ap (refused ws values) (e ∙ rw (p, q, r)) ∙ sym (phase-none text ws values c row-phase (ltb-true 2 row-phase r)))
+      go true p false q true r = rw (p, q) (ap (refused ws values) (e ∙ rw (p, q, r)) ∙ sym (phase-none text ws values c row-phase (ltb-true 3 row-phase r)))
       go true p false q false r = absurd (z (e ∙ rw (p, q, r)))
 
   module _ (z : n ≡ 0) (f : ℕ) (q : f ≡ phaseOf (rowOf ws (slotIn c))) where
@@ -116,28 +116,34 @@ module _ (text ws values : List ℕ) (c : Call Request) (n : ℕ) (e : n ≡ fir
     pub when-idle : f ≡ 1 → onIdle text ws values c ≡ called text ws values c
     when-idle o = rw o at by-phase
 
-    pub when-running : (f ≡ 0 → ⊥) → (f ≡ 1 → ⊥) → onRunning text ws values c ≡ called text ws values c
-    when-running a b =
-        let h = none-first text ws values (slotIn c) n e z .2 in
-        let two : f ≡ 2 = omega arith in
-        rw two at by-phase
+    pub when-running : f ≡ 2 → onRunning text ws values c ≡ called text ws values c
+    when-running o = rw o at by-phase
 
-    -- A result that is the same whether a message runs or not.
-    pub when-open : (x : After) → x ≡ onIdle text ws values c → x ≡ onRunning text ws values c → (f ≡ 0 → ⊥) → x ≡ called text ws values c
-    when-open x i r a = go (eqb f 1) refl
+    pub when-waiting : f ≡ 3 → onWaiting text ws values c ≡ called text ws values c
+    when-waiting o = rw o at by-phase
+
+    -- An open slot that does not wait, whether a message runs or not.
+    pub when-ready : (x : After) → x ≡ onIdle text ws values c → x ≡ onRunning text ws values c → (f ≡ 0 → ⊥) → (f ≡ 3 → ⊥) → x ≡ called text ws values c
+    when-ready x i r a d = go (eqb f 1) refl
       where
         go : (b : Bool) → eqb f 1 ≡ b → x ≡ called text ws values c
         go true t = i ∙ when-idle (eqb-true f 1 t)
-        go false t = r ∙ when-running a (eqb-false f 1 t)
+        go false t =
+            let h = none-first text ws values (slotIn c) n e z .2 in
+            r ∙ when-running (omega (arith, h, eqb-false f 1 t, q))
+
+    -- Of the four phases, the one that is left.
+    pub when-left : (f ≡ 0 → ⊥) → (f ≡ 1 → ⊥) → (f ≡ 3 → ⊥) → onRunning text ws values c ≡ called text ws values c
+    when-left a b d = let h = none-first text ws values (slotIn c) n e z .2 in when-running (omega (arith, h, q))
 
 -- ---- send and commit, which need a slot where no message runs
 
--- The refusals that every call tests first, then 34; 0 where none of them applies.
+-- The refusals that every call tests first, then 37, then 34; 0 where none of them applies.
 unfoldable pub idleRefusal : List ℕ → List ℕ → List ℕ → ℕ → ℕ
 unfolding firstRefusal rowOf
 idleRefusal text ws values s =
     let first = firstRefusal text ws values s in
-    cond (not (eqb first 0)) first (cond (eqb (phaseOf (rowOf ws s)) 2) 34 0)
+    cond (not (eqb first 0)) first (cond (eqb (phaseOf (rowOf ws s)) 3) 37 (cond (eqb (phaseOf (rowOf ws s)) 2) 34 0))
 
 module _ (text ws values : List ℕ) (s m : ℕ) (e : m ≡ firstRefusal text ws values s) where
   pub idle-first : (m ≡ 0 → ⊥) → m ≡ idleRefusal text ws values s
@@ -145,46 +151,54 @@ module _ (text ws values : List ℕ) (s m : ℕ) (e : m ≡ firstRefusal text ws
   idle-first z = rw (← e, ne-eqb m 0 z)
 
   module _ (z : m ≡ 0) (f : ℕ) (q : f ≡ phaseOf (rowOf ws s)) where
+    pub idle-waiting : f ≡ 3 → 37 ≡ idleRefusal text ws values s
+    unfolding idleRefusal
+    idle-waiting o = rw (← e, z, ← q, o)
+
     pub idle-running : f ≡ 2 → 34 ≡ idleRefusal text ws values s
     unfolding idleRefusal
     idle-running o = rw (← e, z, ← q, o)
 
-    pub idle-none : (f ≡ 2 → ⊥) → 0 ≡ idleRefusal text ws values s
+    pub idle-none : (f ≡ 3 → ⊥) → (f ≡ 2 → ⊥) → 0 ≡ idleRefusal text ws values s
     unfolding idleRefusal
-    idle-none a = rw (← e, z, ← q, ne-eqb f 2 a)
+    idle-none b a = rw (← e, z, ← q, ne-eqb f 3 b, ne-eqb f 2 a)
 
 module _ (text ws values : List ℕ) (c : Call Request) (n : ℕ) (e : n ≡ idleRefusal text ws values (slotIn c))
-    (running : onRunning text ws values c ≡ refused ws values 34) where
+    (running : onRunning text ws values c ≡ refused ws values 34) (waiting : onWaiting text ws values c ≡ refused ws values 37) where
   abbrev phase : ℕ
   phase = phaseOf (rowOf ws (slotIn c))
 
-  by-tests : (m : ℕ) → firstRefusal text ws values (slotIn c) ≡ m → (a : Bool) → eqb phase 2 ≡ a → n ≡ cond (not (eqb m 0)) m (cond a 34 0)
+  by-tests : (m : ℕ) → firstRefusal text ws values (slotIn c) ≡ m → (a b : Bool) → eqb phase 3 ≡ a → eqb phase 2 ≡ b
+      → n ≡ cond (not (eqb m 0)) m (cond a 37 (cond b 34 0))
   unfolding idleRefusal
-  by-tests m p a q = e ∙ (λ i. cond (not (eqb (p i) 0)) (p i) (cond (q i) 34 0))
+  by-tests m p a b q r = e ∙ (λ i. cond (not (eqb (p i) 0)) (p i) (cond (q i) 37 (cond (r i) 34 0)))
 
   pub idle-refused : (n ≡ 0 → ⊥) → refused ws values n ≡ called text ws values c
-  idle-refused z = go (firstRefusal text ws values (slotIn c)) refl (eqb phase 2) refl
+  idle-refused z = go (firstRefusal text ws values (slotIn c)) refl (eqb phase 3) refl (eqb phase 2) refl
     where
-      go : (m : ℕ) → firstRefusal text ws values (slotIn c) ≡ m → (a : Bool) → eqb phase 2 ≡ a → refused ws values n ≡ called text ws values c
-      go (suc m) p a q =
-          let other : n ≡ suc m = by-tests (suc m) p a q ∙ rw (eqb·suc-zero m) in
+      go : (m : ℕ) → firstRefusal text ws values (slotIn c) ≡ m → (a : Bool) → eqb phase 3 ≡ a → (b : Bool) → eqb phase 2 ≡ b
+          → refused ws values n ≡ called text ws values c
+      go (suc m) p a q b r =
+          let other : n ≡ suc m = by-tests (suc m) p a b q r ∙ rw (eqb·suc-zero m) in
           refused-first text ws values c n (other ∙ sym p) z
-      go zero p true q =
-          let two = eqb-true phase 2 q in
-          ap (refused ws values) (by-tests 0 p true q) ∙ sym running ∙ when-running text ws values c 0 (sym p) refl phase refl (λ o. omega arith) (λ o. omega arith)
-      go zero p false q = absurd (z (by-tests 0 p false q))
+      go zero p true q b r =
+          ap (refused ws values) (by-tests 0 p true b q r) ∙ sym waiting ∙ when-waiting text ws values c 0 (sym p) refl phase refl (eqb-true phase 3 q)
+      go zero p false q true r =
+          ap (refused ws values) (by-tests 0 p false true q r) ∙ sym running ∙ when-running text ws values c 0 (sym p) refl phase refl (eqb-true phase 2 r)
+      go zero p false q false r = absurd (z (by-tests 0 p false false q r))
 
   module _ (z : n ≡ 0) where
-    both : (firstRefusal text ws values (slotIn c) ≡ 0) × (phase ≡ 2 → ⊥)
-    both = go (firstRefusal text ws values (slotIn c)) refl (eqb phase 2) refl
+    both : (firstRefusal text ws values (slotIn c) ≡ 0) × (phase ≡ 3 → ⊥) × (phase ≡ 2 → ⊥)
+    both = go (firstRefusal text ws values (slotIn c)) refl (eqb phase 3) refl (eqb phase 2) refl
       where
-        go : (m : ℕ) → firstRefusal text ws values (slotIn c) ≡ m → (a : Bool) → eqb phase 2 ≡ a
-            → (firstRefusal text ws values (slotIn c) ≡ 0) × (phase ≡ 2 → ⊥)
-        go (suc m) p a q =
-            let other : n ≡ suc m = by-tests (suc m) p a q ∙ rw (eqb·suc-zero m) in
+        go : (m : ℕ) → firstRefusal text ws values (slotIn c) ≡ m → (a : Bool) → eqb phase 3 ≡ a → (b : Bool) → eqb phase 2 ≡ b
+            → (firstRefusal text ws values (slotIn c) ≡ 0) × (phase ≡ 3 → ⊥) × (phase ≡ 2 → ⊥)
+        go (suc m) p a q b r =
+            let other : n ≡ suc m = by-tests (suc m) p a b q r ∙ rw (eqb·suc-zero m) in
             absurd (omega arith)
-        go zero p true q = let other = by-tests 0 p true q in absurd (omega arith)
-        go zero p false q = (p, eqb-false phase 2 q)
+        go zero p true q b r = let other = by-tests 0 p true b q r in absurd (omega arith)
+        go zero p false q true r = let other = by-tests 0 p false true q r in absurd (omega arith)
+        go zero p false q false r = (p, eqb-false phase 3 q, eqb-false phase 2 r)
 
     pub idle-within : Within ws (slotIn c)
     idle-within = within text ws values (slotIn c) 0 (sym (both .0)) refl
@@ -196,7 +210,7 @@ module _ (text ws values : List ℕ) (c : Call Request) (n : ℕ) (e : n ≡ idl
     pub idle-open : (f : ℕ) → f ≡ phase → (f ≡ 0 → ⊥) → onIdle text ws values c ≡ called text ws values c
     idle-open f q a =
         let low = none-first text ws values (slotIn c) 0 (sym (both .0)) refl .2 in
-        when-idle text ws values c 0 (sym (both .0)) refl f q (omega (arith, both .1))
+        when-idle text ws values c 0 (sym (both .0)) refl f q (omega (arith, both .1, both .2))
 
     -- Send: alike on a closed and on an open slot.
     pub idle-either : onClosed text ws values c ≡ onIdle text ws values c → onIdle text ws values c ≡ called text ws values c

@@ -3,7 +3,7 @@ ghost use mathlib.Core.Path.{_≡_};
 ghost use Rattle.machine_words.specs.Calls.{rowOf, phaseOf, misfitOf};
 ghost use Rattle.machine_checks.specs.Phases.{firstRefusal, idleRefusal};
 
-// What a call answers: done (a send: granted), going or the message's answer; a number 21 to 36; 40 with the lowest
+// What a call answers: done (a send: granted), going or the message's answer; a number 21 to 37; 40 with the lowest
 // clashing slot; 41.
 pub enum Outcome {
     Done,
@@ -31,7 +31,7 @@ fn misfit(text: &[u8], state: &[u32], values: &[u32]) -> u32
     24
 }
 
-// A slot's phase: 0 closed, 1 open, 2 a message runs.
+// A slot's phase: 0 closed, 1 open, 2 a message runs, 3 a send waits.
 pub fn phase_of(state: &[u32], slot: u32) -> u32
     ensures { λ r. ⌜ r ≡ phaseOf (rowOf (now (state .entry)) slot) ⌝ }
 {
@@ -52,13 +52,13 @@ pub fn refusal(text: &[u8], state: &[u32], values: &[u32], slot: u32) -> u32
     if 8 <= slot {
         return 31;
     }
-    if 2 < phase_of(state, slot) {
+    if 3 < phase_of(state, slot) {
         return 24;
     }
     0
 }
 
-// What send and commit test first: no message runs in the slot. The refusals of every call, then 34; else 0.
+// What send and commit test first: no send waits and no message runs in the slot. The refusals of every call, then 37, 34; else 0.
 pub fn idle_refusal(text: &[u8], state: &[u32], values: &[u32], slot: u32) -> u32
     ensures { λ r. ⌜ r ≡ idleRefusal (now (text .entry)) (now (state .entry)) (now (values .entry)) slot ⌝ }
 {
@@ -66,7 +66,11 @@ pub fn idle_refusal(text: &[u8], state: &[u32], values: &[u32], slot: u32) -> u3
     if number != 0 {
         return number;
     }
-    if phase_of(state, slot) == 2 {
+    let phase = phase_of(state, slot);
+    if phase == 3 {
+        return 37;
+    }
+    if phase == 2 {
         return 34;
     }
     0

@@ -98,7 +98,7 @@ module _ (text tables : List ℕ) (q : Wanted) (d : ℕ) where
 
   -- The send locks the class exactly if the place is not 32.
   module _ (k : ℕ) (e : k ≡ domainPlace text tables q d) where
-    place-locks : k < 32 → (concerns text tables q d ≡ true) × (k ≡ placeIn text tables q d)
+    pub place-locks : k < 32 → (concerns text tables q d ≡ true) × (k ≡ placeIn text tables q d)
     unfolding domainPlace
     place-locks h = side (concerns text tables q d) refl e
       where
@@ -106,7 +106,7 @@ module _ (text tables : List ℕ) (q : Wanted) (d : ℕ) where
         side true t r = (t, r)
         side false t r = absurd (omega arith)
 
-    place-passes : 32 ≤ k → concerns text tables q d ≡ false
+    pub place-passes : 32 ≤ k → concerns text tables q d ≡ false
     unfolding domainPlace
     place-passes h = side (concerns text tables q d) refl e
       where

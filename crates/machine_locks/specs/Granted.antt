@@ -1,26 +1,28 @@
 -- A send that is granted: its locks over the state, class by class, and its message at its start.
-use Prim.Native.Nat.{ℕ, zero, suc, _+_, _/_, _%_, _^_, _≤_, _<_}
+use Prim.Native.Nat.{ℕ, zero, suc, _+_, _-_, _/_, _%_, _^_, _≤_, _<_}
 use native.Mathlib.Omega.{arith}
 use native.Mathlib.Numerals.{add-one}
 use mathlib.Core.Path.{_≡_, refl, sym, ap, ap₂, _∙_}
 use mathlib.Core.Bool.{Bool, true, false, cond}
 use mathlib.Core.Option.{some}
 use mathlib.Core.List.{List, [], _∷_, _++_}
-use lib.ListN.{length, getD, length-set}
+use lib.ListN.{length, getD, take, drop, length-set}
+use lib.Seq.{sets, length-sets}
 use lib.Bits.{bitOr}
 use lib.Dec.{eqb}
 use lib.Count.{trailingZeros}
-use borrow.Author.Tests.{eq-eqb, ne-eqb, eqb-false}
-use Rattle.layout.specs.Layout.{lockMarksAt, objectLocksAt, classLocksAt, wholeLocksAt, rowWords}
-use Rattle.model.specs.Base.{least, fold, upto}
+use borrow.Author.Tests.{eq-eqb, ne-eqb, eqb-false, le-leb, lt-leb}
+use Rattle.layout.specs.Layout.{tableWords, lockMarksAt, objectLocksAt, classLocksAt, wholeLocksAt, rowWords}
+use Rattle.model.specs.Base.{fold, upto}
 use Rattle.catalog.specs.View.{classCount, memberAt}
 use Rattle.machine_words.specs.Row.{lockMarked, withBits, objectRow, newAct, withAct}
 use Rattle.catalog.specs.Bodies.{namedAt}
-use Rattle.machine_words.specs.Request.{Wanted, domainLock, locked, concerns, withLock, placeIn, First, on, past, nowhere, firstOf, namedRow, pastRow, entered}
-use Rattle.machine_words.specs.Calls.{tablesOf, rowOf, withRow, refused, inTheWay, startedAt, startedOr, grantedOr}
-use Rattle.machine_words.specs.Rows.{with-same, with-tables}
+use Rattle.machine_words.specs.Request.{Wanted, ownsLocks, domainLock, locked, concerns, withLock, placeIn, First, on, past, nowhere, firstOf, namedRow, pastRow, entered}
+use Rattle.machine_words.specs.Line.{tablesOf, rowStart, rowOf, withRow, countIn, inTheWay, obstacle}
+use Rattle.machine_words.specs.Calls.{refused, startedAt, startedOr, joinedAt, joinedOr, arrivedOr, grantedOr, granted}
+use Rattle.machine_words.specs.Spans.{take-sets, span-length, sets-own, lent-sets, sets-same, sets-sets}
 use Rattle.machine_locks.specs.Locking.{placeBit, domainBit, lockedTarget, object-locked, domain-lock, domain-free, locked-object, locked-class}
-use Rattle.machine_checks.specs.Lent.{Within, part, part-is, lent, row-size, now-within, now-length, with-with, with-own, lent-is}
+use Rattle.machine_checks.specs.Lent.{Within, Span, part, part-is, lent, lent-is}
 use Rattle.machine_locks.specs.Way.{gathered, least-none, least-some}
 use Rattle.machine_locks.specs.OneObject.{ToObject, first-there}
 
@@ -91,82 +93,146 @@ pub entered-lent : (ws : List ℕ) (s : ℕ) → Within ws s → (q : Wanted) (f
     → lent ws s row ≡ withRow ws s (entered q f (rowOf ws s))
 entered-lent ws s h q f row long r = lent-is ws s h row (entered q f (rowOf ws s)) long (r ∙ ap (entered q f) (part-is ws s))
 
-module _ (text ws : List ℕ) (s : ℕ) (h : Within ws s) (q : Wanted) where
+-- A part of the state written again: what it holds then is made from what was written before.
+pub written-again : (ws : List ℕ) (at size : ℕ) → at + size ≤ length ws → (f : List ℕ → List ℕ) → ((l : List ℕ) → length (f l) ≡ length l)
+    → (now now′ part : List ℕ) → length part ≡ size → now ≡ sets ws at part → now′ ≡ sets now at (f (take size (drop at now))) → now′ ≡ sets ws at (f part)
+written-again ws at size fits f same now now′ part long e r =
+    let room : at + length part ≤ length ws = omega (arith, fits, long) in
+    let own : take size (drop at now) ≡ part =
+    ap (λ (x : List ℕ). take size (drop at x)) e ∙ ap (λ (n : ℕ). take n (drop at (sets ws at part))) (sym long) ∙ sets-same ws at part room in
+    r ∙ ap₂ (λ (x l : List ℕ). sets x at (f l)) e own ∙ sets-sets ws at part room (f part) (same part)
+
+-- A send's locks, in the part of the state that starts at `at`: a slot's row, or the words of its waiting send.
+module _ (text ws : List ℕ) (at size : ℕ) (h : Span ws at size) (q : Wanted) where
+  -- The part as it is lent, from where it begins to where it ends.
+  span-is : take (at + size - at) (drop at ws) ≡ take size (drop at ws)
+  span-is = let k : at + size - at ≡ size = omega arith in ap (λ (n : ℕ). take n (drop at ws)) k
+
   abbrev below : ℕ → List ℕ
-  below d = lockedBelow text (tablesOf ws) q (rowOf ws s) d
+  below d = lockedBelow text (tablesOf ws) q (take size (drop at ws)) d
 
-  size : (d : ℕ) → length (below d) ≡ rowWords
-  size d = below-length text (tablesOf ws) q (rowOf ws s) d ∙ row-size ws s h
+  long : (d : ℕ) → length (below d) ≡ size
+  long d = below-length text (tablesOf ws) q (take size (drop at ws)) d ∙ span-length ws at size (h .fits)
 
-  pub lock-none : ws ≡ withRow ws s (below 0)
+  pub lock-none : ws ≡ sets ws at (below 0)
   unfolding fold upto
-  lock-none = sym (with-own ws s h)
+  lock-none = sym (sets-own ws at size (h .fits))
 
-  module _ (now : List ℕ) (d : ℕ) (e : now ≡ withRow ws s (below d)) where
-    pub below-within : Within now s
-    below-within = now-within ws s h now (below d) e
-
+  module _ (now : List ℕ) (d : ℕ) (e : now ≡ sets ws at (below d)) where
     pub below-same : length now ≡ length ws
-    below-same = now-length ws s h now (below d) e
+    below-same = ap length e ∙ length-sets ws at (below d)
+
+    pub below-span : Span now at size
+    below-span = record { above = h .above; fits = omega (arith, h .fits, below-same) }
 
   -- One more class is locked.
-  pub lock-more : (now now′ : List ℕ) (d : ℕ) → now ≡ withRow ws s (below d) → now′ ≡ withRow now s (domainLock text (tablesOf now) q (rowOf now s) d)
-      → now′ ≡ withRow ws s (below (d + 1))
+  pub lock-more : (now now′ : List ℕ) (d : ℕ) → now ≡ sets ws at (below d) → now′ ≡ sets now at (domainLock text (tablesOf now) q (take size (drop at now)) d)
+      → now′ ≡ sets ws at (below (d + 1))
   lock-more now now′ d e r =
-      let tables : tablesOf now ≡ tablesOf ws = ap tablesOf e ∙ with-tables ws (h .long) s (h .slot) (below d) (size d) in
-      let own : rowOf now s ≡ below d = ap (λ (x : List ℕ). rowOf x s) e ∙ with-same ws (h .long) s (h .slot) (below d) (size d) in
-      let row-is : domainLock text (tablesOf now) q (rowOf now s) d ≡ below (suc d) =
-      ap₂ (λ (t l : List ℕ). domainLock text t q l d) tables own ∙ sym (below-more text (tablesOf ws) q (rowOf ws s) d) in
-      r
-      ∙ ap₂ (λ (x row : List ℕ). withRow x s row) e row-is
-      ∙ with-with ws s h (below d) (below (suc d)) (size d) (size (suc d))
-      ∙ ap (λ (n : ℕ). withRow ws s (below n)) (sym (add-one d))
+      let tables : tablesOf now ≡ tablesOf ws = ap tablesOf e ∙ take-sets (below d) ws tableWords at (h .above) in
+      let r′ = r ∙ ap (λ (t : List ℕ). sets now at (domainLock text t q (take size (drop at now)) d)) tables in
+      written-again ws at size (h .fits) (λ l. domainLock text (tablesOf ws) q l d) (λ l. lock-length text (tablesOf ws) q l d) now now′ (below d) (long d) e r′
+      ∙ ap (sets ws at) (sym (below-more text (tablesOf ws) q (take size (drop at ws)) d))
+      ∙ ap (λ (n : ℕ). sets ws at (below n)) (sym (add-one d))
 
-  -- One class's lock, in the lent row.
-  pub lock-one : (d bits : ℕ) → bits ≡ domainBit text (tablesOf ws) q d → (bits ≡ 0 → ⊥) → (row : List ℕ) → length row ≡ rowWords
-      → row ≡ withBits (part ws s) (wholeLocksAt + d) bits → lent ws s row ≡ withRow ws s (domainLock text (tablesOf ws) q (rowOf ws s) d)
-  lock-one d bits b taken row long r =
-      lent-is ws s h row (domainLock text (tablesOf ws) q (rowOf ws s) d) long
-      (r ∙ ap (λ (l : List ℕ). withBits l (wholeLocksAt + d) bits) (part-is ws s) ∙ domain-lock text (tablesOf ws) q d (rowOf ws s) bits b taken)
+  -- One class's lock, in the lent part.
+  pub lock-one : (d bits : ℕ) → bits ≡ domainBit text (tablesOf ws) q d → (bits ≡ 0 → ⊥) → (part : List ℕ) → length part ≡ size
+      → part ≡ withBits (take (at + size - at) (drop at ws)) (wholeLocksAt + d) bits
+      → take at ws ++ (part ++ drop (at + size - at) (drop at ws)) ≡ sets ws at (domainLock text (tablesOf ws) q (take size (drop at ws)) d)
+  lock-one d bits b taken part size′ r =
+      lent-sets ws at size (h .fits) part (domainLock text (tablesOf ws) q (take size (drop at ws)) d) size′
+      (r ∙ ap (λ (l : List ℕ). withBits l (wholeLocksAt + d) bits) span-is ∙ domain-lock text (tablesOf ws) q d (take size (drop at ws)) bits b taken)
 
-  pub lock-free : (d bits : ℕ) → bits ≡ domainBit text (tablesOf ws) q d → bits ≡ 0 → ws ≡ withRow ws s (domainLock text (tablesOf ws) q (rowOf ws s) d)
-  lock-free d bits b free = sym (with-own ws s h) ∙ ap (withRow ws s) (domain-free text (tablesOf ws) q d (rowOf ws s) bits b free)
+  pub lock-free : (d bits : ℕ) → bits ≡ domainBit text (tablesOf ws) q d → bits ≡ 0 → ws ≡ sets ws at (domainLock text (tablesOf ws) q (take size (drop at ws)) d)
+  lock-free d bits b free =
+      sym (sets-own ws at size (h .fits)) ∙ ap (sets ws at) (domain-free text (tablesOf ws) q d (take size (drop at ws)) bits b free)
 
-  -- ---- granted, or 40
+  -- The lock of a send to an object or to a class's own objects, in the lent part.
+  pub lock-target : q .kind < 2 → q .place < 32 → (part : List ℕ) → length part ≡ size → part ≡ lockedTarget q (take (at + size - at) (drop at ws))
+      → take at ws ++ (part ++ drop (at + size - at) (drop at ws)) ≡ sets ws at (locked text (tablesOf ws) q (take size (drop at ws)))
+  lock-target k l part size′ r =
+      lent-sets ws at size (h .fits) part (locked text (tablesOf ws) q (take size (drop at ws))) size′
+      (r ∙ ap (lockedTarget q) span-is ∙ target-locked text (tablesOf ws) q (take size (drop at ws)) k l)
 
-  pub held-up : (values : List ℕ) (mask : ℕ) → mask ≡ gathered (inTheWay text ws s q) 8 → (mask ≡ 0 → ⊥)
-      → grantedOr text ws values s q (some (trailingZeros 32 mask)) ≡ grantedOr text ws values s q (least (inTheWay text ws s q) 8)
-  held-up values mask e z =
-      ap (grantedOr text ws values s q)
-      (ap (λ (m : ℕ). some (trailingZeros 32 m)) e ∙ sym (least-some (inTheWay text ws s q) 32 8 (omega arith) (λ x. z (e ∙ x))))
+-- A slot's row is such a part.
+pub row-span : (ws : List ℕ) (s : ℕ) → Within ws s → Span ws (rowStart s) rowWords
+row-span ws s h = record { above = omega arith; fits = omega (arith, h .slot, h .long) }
 
-  -- No slot is in the way, and the message starts at f.
-  module _ (values : List ℕ) (mask : ℕ) (e : mask ≡ gathered (inTheWay text ws s q) 8) (z : mask ≡ 0) (f : First) (p : f ≡ firstOf text (tablesOf ws) q) where
-    started-or : startedOr text ws values s q f ≡ grantedOr text ws values s q (least (inTheWay text ws s q) 8)
-    started-or =
-        ap (startedOr text ws values s q) p ∙ ap (grantedOr text ws values s q) (sym (least-none (inTheWay text ws s q) 8 (sym e ∙ z)))
+-- ---- started, in the line, or refused
 
-    pub starts-nowhere : f ≡ nowhere → refused ws values 24 ≡ grantedOr text ws values s q (least (inTheWay text ws s q) 8)
-    starts-nowhere n = ap (startedOr text ws values s q) (sym n) ∙ started-or
+-- The message starts at f.
+module _ (text ws values : List ℕ) (s : ℕ) (q : Wanted) (f : First) (p : f ≡ firstOf text (tablesOf ws) q) where
+  pub starts-nowhere : f ≡ nowhere → refused ws values 24 ≡ startedOr text ws values s q (firstOf text (tablesOf ws) q)
+  starts-nowhere n = ap (startedOr text ws values s q) (sym n ∙ p)
 
-    pub starts-there : (f ≡ nowhere → ⊥) → startedAt text ws values s q f ≡ grantedOr text ws values s q (least (inTheWay text ws s q) 8)
-    starts-there n = go f n ∙ started-or
-      where
-        go : (g : First) → (g ≡ nowhere → ⊥) → startedAt text ws values s q g ≡ startedOr text ws values s q g
-        go (on o first end) n = refl
-        go (past o) n = refl
-        go nowhere n = absurd (n refl)
+  pub starts-there : (f ≡ nowhere → ⊥) → startedAt text ws values s q f ≡ startedOr text ws values s q (firstOf text (tablesOf ws) q)
+  starts-there n = go f n ∙ ap (startedOr text ws values s q) p
+    where
+      go : (g : First) → (g ≡ nowhere → ⊥) → startedAt text ws values s q g ≡ startedOr text ws values s q g
+      go (on o first end) n = refl
+      go (past o) n = refl
+      go nowhere n = absurd (n refl)
 
+-- The slots in the way of a send that needs a new lock, as a mask.
+module _ (text ws values : List ℕ) (s : ℕ) (q : Wanted) (mask count : ℕ) (c : count ≡ countIn ws) (e : mask ≡ gathered (inTheWay text ws count s q) 8) where
+  mask-is : mask ≡ gathered (inTheWay text ws (countIn ws) s q) 8
+  mask-is = e ∙ ap (λ (n : ℕ). gathered (inTheWay text ws n s q) 8) c
+
+  pub arrives-free : mask ≡ 0 → startedOr text ws values s q (firstOf text (tablesOf ws) q) ≡ arrivedOr text ws values s q (obstacle text ws (countIn ws) s q)
+  unfolding obstacle
+  arrives-free z = ap (arrivedOr text ws values s q) (sym (least-none (inTheWay text ws (countIn ws) s q) 8 (sym mask-is ∙ z)))
+
+  module _ (z : mask ≡ 0 → ⊥) where
+    held-up : joinedOr text ws values s q (trailingZeros 32 mask) ≡ arrivedOr text ws values s q (obstacle text ws (countIn ws) s q)
+    unfolding obstacle
+    held-up =
+        ap (arrivedOr text ws values s q)
+        (ap (λ (m : ℕ). some (trailingZeros 32 m)) mask-is ∙ sym (least-some (inTheWay text ws (countIn ws) s q) 32 8 (omega arith) (λ x. z (mask-is ∙ x))))
+
+    pub arrives-full : 8 ≤ count → refused ws values 24 ≡ arrivedOr text ws values s q (obstacle text ws (countIn ws) s q)
+    arrives-full l =
+        ap (λ (b : Bool). cond b (refused ws values 24) (joinedAt text ws values s q (trailingZeros 32 mask))) (sym (le-leb 8 (countIn ws) (omega (arith, c))))
+        ∙ held-up
+
+    pub arrives-last : count < 8 → joinedAt text ws values s q (trailingZeros 32 mask) ≡ arrivedOr text ws values s q (obstacle text ws (countIn ws) s q)
+    arrives-last l =
+        ap (λ (b : Bool). cond b (refused ws values 24) (joinedAt text ws values s q (trailingZeros 32 mask))) (sym (lt-leb 8 (countIn ws) (omega (arith, c))))
+        ∙ held-up
+
+-- By whether the slot holds the send's locks already.
+pub granted-by : (text ws values : List ℕ) (s : ℕ) (q : Wanted) (b : Bool) → b ≡ ownsLocks text (tablesOf ws) q (part ws s) → (t : Bool) → b ≡ t
+    → grantedOr text ws values s q t ≡ granted text ws values s q
+unfolding granted
+granted-by text ws values s q b e t i = ap (grantedOr text ws values s q) (sym i ∙ e ∙ ap (ownsLocks text (tablesOf ws) q) (part-is ws s))
+
+-- A send that nobody is in the way of starts, whether it needs a new lock or not.
+pub granted-free : (text ws values : List ℕ) (s : ℕ) (q : Wanted) → 0 ≡ gathered (inTheWay text ws (countIn ws) s q) 8
+    → startedOr text ws values s q (firstOf text (tablesOf ws) q) ≡ granted text ws values s q
+unfolding granted
+granted-free text ws values s q e = go (ownsLocks text (tablesOf ws) q (rowOf ws s))
+  where
+    go : (b : Bool) → startedOr text ws values s q (firstOf text (tablesOf ws) q) ≡ grantedOr text ws values s q b
+    go true = refl
+    go false = arrives-free text ws values s q 0 (countIn ws) refl e refl
+
+module _ (text ws : List ℕ) (s : ℕ) (h : Within ws s) (q : Wanted) where
   -- The locks, then the message.
-  pub locked-entered : (f : First) (now now′ : List ℕ) → now ≡ withRow ws s (locked text (tablesOf ws) q (rowOf ws s))
-      → now′ ≡ withRow now s (entered q f (rowOf now s)) → now′ ≡ withRow ws s (entered q f (locked text (tablesOf ws) q (rowOf ws s)))
-  locked-entered f now now′ e r =
-      let row : List ℕ = locked text (tablesOf ws) q (rowOf ws s) in
-      let long : length row ≡ rowWords = locked-length text (tablesOf ws) q (rowOf ws s) ∙ row-size ws s h in
-      let own : rowOf now s ≡ row = ap (λ (x : List ℕ). rowOf x s) e ∙ with-same ws (h .long) s (h .slot) row long in
-      r
-      ∙ ap₂ (λ (x l : List ℕ). withRow x s l) e (ap (entered q f) own)
-      ∙ with-with ws s h row (entered q f row) long (entered-length q f row ∙ long)
+  module _ (f : First) (now now′ row : List ℕ) (long : length row ≡ rowWords) where
+    pub locked-entered : now ≡ withRow ws s (locked text (tablesOf ws) q row) → now′ ≡ withRow now s (entered q f (rowOf now s))
+        → now′ ≡ withRow ws s (entered q f (locked text (tablesOf ws) q row))
+    unfolding rowOf
+    locked-entered e r =
+        written-again ws (rowStart s) rowWords (row-span ws s h .fits) (entered q f) (entered-length q f) now now′ (locked text (tablesOf ws) q row)
+        (locked-length text (tablesOf ws) q row ∙ long) e r
+
+    -- The locks of a row that was written before.
+    pub again-entered : (was : List ℕ) → was ≡ withRow ws s row → now ≡ withRow was s (locked text (tablesOf was) q (take rowWords (drop (rowStart s) was)))
+        → now′ ≡ withRow now s (entered q f (rowOf now s)) → now′ ≡ withRow ws s (entered q f (locked text (tablesOf ws) q row))
+    again-entered was e l r =
+        let tables : tablesOf was ≡ tablesOf ws = ap tablesOf e ∙ take-sets row ws tableWords (rowStart s) (row-span ws s h .above) in
+        let l′ = l ∙ ap (λ (t : List ℕ). withRow was s (locked text t q (take rowWords (drop (rowStart s) was)))) tables in
+        locked-entered
+        (written-again ws (rowStart s) rowWords (row-span ws s h .fits) (locked text (tablesOf ws) q) (locked-length text (tablesOf ws) q) was now row long e l′) r
 
   -- Both in the lent row, for a send to an object: its locks are held on the object and on its class.
   pub taken-lent : ToObject (tablesOf ws) q → (f : First) → f ≡ firstOf text (tablesOf ws) q → (bits : ℕ) → bits ≡ placeBit (q .place)

@@ -7,11 +7,10 @@ use mathlib.Core.List.{List}
 use lib.Dec.{leb, ltb}
 use borrow.Author.Tests.{leb-false, lt-leb, le-leb, lt-ltb, le-ltb}
 use Rattle.layout.specs.Layout.{namesAt, kindWords, methodNamesAt, objectClassAt}
-use Rattle.model.specs.Base.{least}
 use Rattle.model.specs.Machine.{object, class, domain, to}
 use Rattle.catalog.specs.View.{classWord, objectWord, classCount, objectCount, memberCount}
 use Rattle.machine_words.specs.Request.{Wanted, lacking}
-use Rattle.machine_words.specs.Calls.{After, tablesOf, refused, wanted, inTheWay, grantedOr, sentTo, sentBy}
+use Rattle.machine_words.specs.Calls.{After, tablesOf, refused, wanted, granted, sentTo, sentBy}
 use Rattle.machine_locks.specs.OneObject.{ObjectOf, ToObject}
 use Rattle.machine_locks.specs.Clashing.{lacking-other}
 
@@ -110,18 +109,18 @@ module _ (text ws values : List ℕ) (s k a : ℕ) where
 
     module _ (z : n ≡ 0) (w : Wanted) (r : w ≡ wanted (tablesOf ws) kind o c k a) where
       past-method : (t : Bool) → lacking text (tablesOf ws) w ≡ t
-          → cond t (refused ws values 24) (grantedOr text ws values s w (least (inTheWay text ws s w) 8)) ≡ sentTo text ws values s kind o c k a
+          → cond t (refused ws values 24) (granted text ws values s w) ≡ sentTo text ws values s kind o c k a
       unfolding sentTo
       past-method t l =
           let p = passes (tablesOf ws) c k n e z in
-          ap (λ (u : Bool). cond u (refused ws values 24) (grantedOr text ws values s w (least (inTheWay text ws s w) 8))) (sym l)
-          ∙ ap (λ (x : Wanted). cond (lacking text (tablesOf ws) x) (refused ws values 24) (grantedOr text ws values s x (least (inTheWay text ws s x) 8))) r
+          ap (λ (u : Bool). cond u (refused ws values 24) (granted text ws values s w)) (sym l)
+          ∙ ap (λ (x : Wanted). cond (lacking text (tablesOf ws) x) (refused ws values 24) (granted text ws values s x)) r
           ∙ rw (p .0, p .1)
 
       pub sent-lacking : lacking text (tablesOf ws) w ≡ true → refused ws values 24 ≡ sentTo text ws values s kind o c k a
       sent-lacking l = past-method true l
 
-      pub sent-there : lacking text (tablesOf ws) w ≡ false → grantedOr text ws values s w (least (inTheWay text ws s w) 8) ≡ sentTo text ws values s kind o c k a
+      pub sent-there : lacking text (tablesOf ws) w ≡ false → granted text ws values s w ≡ sentTo text ws values s kind o c k a
       sent-there l = past-method false l
 
 -- ---- an existing object

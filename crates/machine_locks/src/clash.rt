@@ -1,17 +1,18 @@
-// What is in the way of a send: the locks of a row that clash with it, and the slots that hold them, as a mask. The rules are in
-// crates/machine_words/specs/Request.antt.
+// What is in the way of a send: the locks of a row that clash with it, and the slots that hold them or wait for them ahead of it, as a
+// mask. The rules are in crates/machine_words/specs/Request.antt and Line.antt.
 use super::Wanted;
+use super::line::is_ahead;
 ghost use mathlib.Core.Path.{_≡_};
-ghost use Rattle.machine_words.specs.Request.{inDomain, lacks, lacking};
+ghost use Rattle.machine_words.specs.Request.{inDomain, lacks, lacking, rowMeets};
 ghost use Rattle.machine_locks.specs.Asked.{asked};
 ghost use Rattle.machine_locks.specs.Clashing.{domainPlace, heldAt, holdsOne, conflictsOf, classClashes, domainClashes};
 ghost use Prim.Native.Nat.{_≤_, _<_};
 ghost use lib.ListN.{length};
 ghost use Rattle.layout.specs.Layout.{stateWords};
-ghost use Rattle.machine_words.specs.Calls.{inTheWay};
+ghost use Rattle.machine_words.specs.Line.{tablesOf, holderAt, waiterAt, blocks, inTheWay};
 ghost use Rattle.machine_checks.specs.Lent.{Within};
 ghost use Rattle.machine_locks.specs.Way.{gathered, besides};
-ghost use Rattle.machine_locks.specs.Holders.{heldUpto, holding, targetWord};
+ghost use Rattle.machine_locks.specs.Holders.{heldUpto, lockTest, targetWord};
 
 const METHODS: u32 = 1;
 
@@ -138,7 +139,7 @@ pub(crate) fn held_by_all(state: &[u32], word: usize, class: u32) -> u32
 // Whether the slot is open and holds one of these methods at a word of its row, or on the class with its objects.
 fn is_holder(state: &[u32], slot: u32, word: usize, class: u32, methods: u32) -> bool
     requires { ⌜ Within (now state) slot ⌝ }
-    ensures { λ r. ⌜ r ≡ holding (now (state .entry)) word class methods slot ⌝ }
+    ensures { λ r. ⌜ r ≡ holderAt (now (state .entry)) (lockTest word class methods) slot ⌝ }
 {
     if machine_checks::phase_of(state, slot) == 0 {
         return false;
@@ -148,15 +149,39 @@ fn is_holder(state: &[u32], slot: u32, word: usize, class: u32, methods: u32) ->
     holds(&state[start..end], word, class, methods)
 }
 
-// The mask of the slots that are such holders.
-fn holders(state: &[u32], word: usize, class: u32, methods: u32) -> u32
-    requires { ⌜ stateWords ≤ length (now state) ⌝ }
-    ensures { λ r. ⌜ r ≡ gathered (holding (now (state .entry)) word class methods) 8 ⌝ }
+// Whether the slot is one of the first in line, and its waiting send has such a lock.
+fn is_waiter(state: &[u32], ahead: u32, slot: u32, word: usize, class: u32, methods: u32) -> bool
+    requires { ⌜ Within (now state) slot × (ahead ≤ 8) ⌝ }
+    ensures { λ r. ⌜ r ≡ waiterAt (now (state .entry)) ahead (lockTest word class methods) slot ⌝ }
+{
+    if !is_ahead(state, ahead, slot) {
+        return false;
+    }
+    let start = layout::TABLE_WORDS + slot as usize * layout::ROW_WORDS + layout::WAITING_AT;
+    let end = start + layout::WAITING_WORDS;
+    holds(&state[start..end], word, class, methods)
+}
+
+// Whether the slot is such a holder or such a waiter.
+fn has_conflict(state: &[u32], ahead: u32, slot: u32, word: usize, class: u32, methods: u32) -> bool
+    requires { ⌜ Within (now state) slot × (ahead ≤ 8) ⌝ }
+    ensures { λ r. ⌜ r ≡ blocks (now (state .entry)) ahead (lockTest word class methods) slot ⌝ }
+{
+    if is_holder(state, slot, word, class, methods) {
+        return true;
+    }
+    is_waiter(state, ahead, slot, word, class, methods)
+}
+
+// The mask of the slots that are such holders or waiters.
+fn conflicting(state: &[u32], ahead: u32, word: usize, class: u32, methods: u32) -> u32
+    requires { ⌜ (stateWords ≤ length (now state)) × (ahead ≤ 8) ⌝ }
+    ensures { λ r. ⌜ r ≡ gathered (blocks (now (state .entry)) ahead (lockTest word class methods)) 8 ⌝ }
 {
     let mut mask = 0;
     let mut slot = 0u32;
     while slot < 8 {
-        if is_holder(state, slot, word, class, methods) {
+        if has_conflict(state, ahead, slot, word, class, methods) {
             mask = mask | (1u32 << slot);
         }
         slot += 1;
@@ -165,12 +190,19 @@ fn holders(state: &[u32], word: usize, class: u32, methods: u32) -> u32
 }
 
 // The same mask without one slot.
-fn other_holders(state: &[u32], slot: u32, word: usize, class: u32, methods: u32) -> u32
-    requires { ⌜ Within (now state) slot ⌝ }
-    ensures { λ r. ⌜ r ≡ gathered (besides slot (holding (now (state .entry)) word class methods)) 8 ⌝ }
+fn others_conflicting(
+    state: &[u32],
+    ahead: u32,
+    slot: u32,
+    word: usize,
+    class: u32,
+    methods: u32,
+) -> u32
+    requires { ⌜ Within (now state) slot × (ahead ≤ 8) ⌝ }
+    ensures { λ r. ⌜ r ≡ gathered (besides slot (blocks (now (state .entry)) ahead (lockTest word class methods))) 8 ⌝ }
 {
-    let mask = holders(state, word, class, methods);
-    if is_holder(state, slot, word, class, methods) {
+    let mask = conflicting(state, ahead, word, class, methods);
+    if has_conflict(state, ahead, slot, word, class, methods) {
         mask - (1u32 << slot)
     } else {
         mask
@@ -189,23 +221,20 @@ fn target_word(wanted: Wanted) -> usize
 }
 
 // The slots in the way of a send to an object or to a class's own objects.
-fn target_clashing(text: &[u8], state: &[u32], slot: u32, wanted: Wanted) -> u32
-    requires { ⌜ Within (now state) slot × (wanted .kind < 2) ⌝ }
-    ensures { λ r. ⌜ r ≡ gathered (inTheWay (now (text .entry)) (now (state .entry)) slot (asked wanted)) 8 ⌝ }
+fn target_clashing(text: &[u8], state: &[u32], ahead: u32, slot: u32, wanted: Wanted) -> u32
+    requires { ⌜ Within (now state) slot × (ahead ≤ 8) × (wanted .kind < 2) ⌝ }
+    ensures { λ r. ⌜ r ≡ gathered (inTheWay (now (text .entry)) (now (state .entry)) ahead slot (asked wanted)) 8 ⌝ }
 {
     let word = target_word(wanted);
     let methods = conflicts(&state[0..layout::TABLE_WORDS], wanted.class, wanted.place);
-    other_holders(state, slot, word, wanted.class, methods)
+    others_conflicting(state, ahead, slot, word, wanted.class, methods)
 }
 
-// Whether another slot is open and its locks are in the way of a send to a domain.
-fn is_in_the_way(text: &[u8], state: &[u32], slot: u32, wanted: Wanted, other: u32) -> bool
+// Whether a slot is open and its locks are in the way of a send to a domain.
+fn domain_holder(text: &[u8], state: &[u32], wanted: Wanted, other: u32) -> bool
     requires { ⌜ Within (now state) other × (2 ≤ wanted .kind) ⌝ }
-    ensures { λ r. ⌜ r ≡ inTheWay (now (text .entry)) (now (state .entry)) slot (asked wanted) other ⌝ }
+    ensures { λ r. ⌜ r ≡ holderAt (now (state .entry)) (rowMeets (now (text .entry)) (tablesOf (now (state .entry))) (asked wanted)) other ⌝ }
 {
-    if other == slot {
-        return false;
-    }
     if machine_checks::phase_of(state, other) == 0 {
         return false;
     }
@@ -219,15 +248,54 @@ fn is_in_the_way(text: &[u8], state: &[u32], slot: u32, wanted: Wanted, other: u
     )
 }
 
+// Whether a slot is one of the first in line, and its waiting send's locks are in the way of a send to a domain.
+fn domain_waiter(text: &[u8], state: &[u32], ahead: u32, wanted: Wanted, other: u32) -> bool
+    requires { ⌜ Within (now state) other × (ahead ≤ 8) × (2 ≤ wanted .kind) ⌝ }
+    ensures { λ r. ⌜ r ≡ waiterAt (now (state .entry)) ahead (rowMeets (now (text .entry)) (tablesOf (now (state .entry))) (asked wanted)) other ⌝ }
+{
+    if !is_ahead(state, ahead, other) {
+        return false;
+    }
+    let start = layout::TABLE_WORDS + other as usize * layout::ROW_WORDS + layout::WAITING_AT;
+    let end = start + layout::WAITING_WORDS;
+    domain_clashes(
+        text,
+        &state[0..layout::TABLE_WORDS],
+        wanted,
+        &state[start..end],
+    )
+}
+
+// Whether another slot is in the way of a send to a domain, as a holder or as one of the first in line.
+fn is_in_the_way(
+    text: &[u8],
+    state: &[u32],
+    ahead: u32,
+    slot: u32,
+    wanted: Wanted,
+    other: u32,
+) -> bool
+    requires { ⌜ Within (now state) other × (ahead ≤ 8) × (2 ≤ wanted .kind) ⌝ }
+    ensures { λ r. ⌜ r ≡ inTheWay (now (text .entry)) (now (state .entry)) ahead slot (asked wanted) other ⌝ }
+{
+    if other == slot {
+        return false;
+    }
+    if domain_holder(text, state, wanted, other) {
+        return true;
+    }
+    domain_waiter(text, state, ahead, wanted, other)
+}
+
 // The slots in the way of a send to a domain.
-fn domain_clashing(text: &[u8], state: &[u32], slot: u32, wanted: Wanted) -> u32
-    requires { ⌜ Within (now state) slot × (2 ≤ wanted .kind) ⌝ }
-    ensures { λ r. ⌜ r ≡ gathered (inTheWay (now (text .entry)) (now (state .entry)) slot (asked wanted)) 8 ⌝ }
+fn domain_clashing(text: &[u8], state: &[u32], ahead: u32, slot: u32, wanted: Wanted) -> u32
+    requires { ⌜ Within (now state) slot × (ahead ≤ 8) × (2 ≤ wanted .kind) ⌝ }
+    ensures { λ r. ⌜ r ≡ gathered (inTheWay (now (text .entry)) (now (state .entry)) ahead slot (asked wanted)) 8 ⌝ }
 {
     let mut mask = 0;
     let mut other = 0;
     while other < 8 {
-        if is_in_the_way(text, state, slot, wanted, other) {
+        if is_in_the_way(text, state, ahead, slot, wanted, other) {
             mask = mask | (1u32 << other);
         }
         other += 1;
@@ -235,14 +303,14 @@ fn domain_clashing(text: &[u8], state: &[u32], slot: u32, wanted: Wanted) -> u32
     mask
 }
 
-// The slots in the way of a send.
-pub(crate) fn clashing(text: &[u8], state: &[u32], slot: u32, wanted: Wanted) -> u32
-    requires { ⌜ Within (now state) slot ⌝ }
-    ensures { λ r. ⌜ r ≡ gathered (inTheWay (now (text .entry)) (now (state .entry)) slot (asked wanted)) 8 ⌝ }
+// The slots in the way of a send, as holders or among the first in line.
+pub(crate) fn clashing(text: &[u8], state: &[u32], ahead: u32, slot: u32, wanted: Wanted) -> u32
+    requires { ⌜ Within (now state) slot × (ahead ≤ 8) ⌝ }
+    ensures { λ r. ⌜ r ≡ gathered (inTheWay (now (text .entry)) (now (state .entry)) ahead slot (asked wanted)) 8 ⌝ }
 {
     if wanted.kind < 2 {
-        target_clashing(text, state, slot, wanted)
+        target_clashing(text, state, ahead, slot, wanted)
     } else {
-        domain_clashing(text, state, slot, wanted)
+        domain_clashing(text, state, ahead, slot, wanted)
     }
 }

@@ -1,24 +1,27 @@
-// Grants a send that has passed its tests, or names the lowest slot in its way.
+// Grants a send that has passed its tests, or puts it in the line and names the lowest slot in its way.
 use super::First;
 use super::Wanted;
 use super::clash::clashing;
 use super::clash::conflicts;
 use super::clash::held_by_all;
+use super::line::waiting_count;
+use super::own::owns_locks;
 use super::start::enter;
 use super::start::first_object;
 use super::start::start_message;
 use super::take::add_lock;
 use super::take::lock;
 use super::take::place_bit;
+use super::wait::join;
 ghost use Prim.Native.Nat.{ℕ, _≤_, _<_};
 ghost use mathlib.Core.Path.{_≡_};
 ghost use mathlib.Core.Bool.{true};
 ghost use mathlib.Core.List.{List};
 ghost use lib.ListN.{length};
 ghost use Rattle.layout.specs.Layout.{stateWords};
-ghost use Rattle.model.specs.Base.{least};
 ghost use Rattle.machine_words.specs.Request.{locked, firstOf, entered};
-ghost use Rattle.machine_words.specs.Calls.{tablesOf, rowOf, withRow, inTheWay, grantedOr};
+ghost use Rattle.machine_words.specs.Line.{tablesOf, rowOf, withRow, countIn, obstacle};
+ghost use Rattle.machine_words.specs.Calls.{startedOr, arrivedOr, granted};
 ghost use Rattle.machine_locks.specs.Asked.{asked};
 ghost use Rattle.machine_checks.specs.Told.{Leaves};
 ghost use Rattle.machine_checks.specs.Lent.{Within};
@@ -26,31 +29,69 @@ ghost use Rattle.machine_locks.specs.Outcomes.{outcomeOf};
 ghost use Rattle.machine_locks.specs.OneObject.{ToObject};
 ghost use Rattle.machine_locks.specs.Holders.{startsAtOnce};
 
-// Grants a send: takes its locks, puts its message at its start, which opens a closed slot, and answers 0. Answers 40 plus the
-// lowest slot in its way, or 24 where its message starts nowhere, and then alters nothing.
-pub(crate) fn grant(text: &[u8], state: &mut [u32], slot: u32, wanted: Wanted) -> u32
+// Takes a send's locks, and puts its message at its start, which opens a closed slot; answers 0. Answers 24 where its message starts
+// nowhere, and then alters nothing.
+fn start_send(text: &[u8], state: &mut [u32], slot: u32, wanted: Wanted) -> u32
     requires { ⌜ Within (now state) slot × (wanted .place < 32) ⌝ }
-    ensures { λ r. ⌜ ((values : List ℕ) → Leaves (grantedOr (now (text .entry)) (now (state .entry)) values slot (asked wanted)
-        (least (inTheWay (now (text .entry)) (now (state .entry)) slot (asked wanted)) 8)) (outcomeOf r) (now (state .exit)) values) ⌝ }
+    ensures { λ r. ⌜ ((values : List ℕ) → Leaves (startedOr (now (text .entry)) (now (state .entry)) values slot (asked wanted)
+        (firstOf (now (text .entry)) (tablesOf (now (state .entry))) (asked wanted))) (outcomeOf r) (now (state .exit)) values) ⌝ }
 {
-    let mask = clashing(text, state, slot, wanted);
-    if mask != 0 {
-        return 40 + u32::trailing_zeros(mask);
-    }
     let first = first_object(text, &state[0..layout::TABLE_WORDS], wanted);
     if let First::Nowhere = first {
         return 24;
     }
-    lock(text, state, slot, wanted);
+    let start = layout::TABLE_WORDS + slot as usize * layout::ROW_WORDS;
+    lock(text, state, start, layout::ROW_WORDS, wanted);
     start_message(state, slot, wanted, first);
     0
 }
 
-// Whether a send to an object can start at once: no slot holds a conflict, and the body is at its place in the object's class.
+// Starts a send that needs a new lock, or puts it in the line: then answers 40 plus the lowest slot in its way. Answers 24 where the
+// line has no place for it.
+fn arrive(text: &[u8], state: &mut [u32], slot: u32, wanted: Wanted) -> u32
+    requires { ⌜ Within (now state) slot × (wanted .place < 32) ⌝ }
+    ensures { λ r. ⌜ ((values : List ℕ) → Leaves (arrivedOr (now (text .entry)) (now (state .entry)) values slot (asked wanted)
+        (obstacle (now (text .entry)) (now (state .entry)) (countIn (now (state .entry))) slot (asked wanted))) (outcomeOf r) (now (state .exit)) values) ⌝ }
+{
+    let count = waiting_count(state);
+    let mask = clashing(text, state, count, slot, wanted);
+    if mask == 0 {
+        return start_send(text, state, slot, wanted);
+    }
+    if count < layout::SLOTS {
+        join(text, state, count, slot, wanted);
+        return 40 + u32::trailing_zeros(mask);
+    }
+    24
+}
+
+// Grants a send, at once where its slot holds its locks already; or puts it in the line.
+pub(crate) fn grant(text: &[u8], state: &mut [u32], slot: u32, wanted: Wanted) -> u32
+    requires { ⌜ Within (now state) slot × (wanted .place < 32) ⌝ }
+    ensures { λ r. ⌜ ((values : List ℕ) → Leaves (granted (now (text .entry)) (now (state .entry)) values slot (asked wanted)) (outcomeOf r) (now (state .exit)) values) ⌝ }
+{
+    let start = layout::TABLE_WORDS + slot as usize * layout::ROW_WORDS;
+    let end = start + layout::ROW_WORDS;
+    if owns_locks(
+        text,
+        &state[0..layout::TABLE_WORDS],
+        wanted,
+        &state[start..end],
+    ) {
+        return start_send(text, state, slot, wanted);
+    }
+    arrive(text, state, slot, wanted)
+}
+
+// Whether a send to an object can start at once: nobody waits, no slot holds a conflict, and the body is at its place in the object's
+// class.
 fn starts_at_once(state: &[u32], wanted: Wanted) -> bool
     requires { ⌜ stateWords ≤ length (now state) ⌝ }
     ensures { λ r. ⌜ r ≡ startsAtOnce (now (state .entry)) (asked wanted) ⌝ }
 {
+    if memory::get(state, layout::LINE_AT) != 0 {
+        return false;
+    }
     let word = layout::OBJECT_LOCKS_AT + wanted.number as usize;
     let methods = conflicts(&state[0..layout::TABLE_WORDS], wanted.class, wanted.place);
     if held_by_all(state, word, wanted.class) & methods != 0 {
@@ -84,8 +125,7 @@ fn take_object(state: &mut [u32], slot: u32, wanted: Wanted)
 // nothing of it need be in memory for those that start at once.
 pub(crate) fn grant_object(text: &[u8], state: &mut [u32], slot: u32, wanted: Wanted) -> u32
     requires { ⌜ Within (now state) slot × ToObject (tablesOf (now state)) (asked wanted) ⌝ }
-    ensures { λ r. ⌜ ((values : List ℕ) → Leaves (grantedOr (now (text .entry)) (now (state .entry)) values slot (asked wanted)
-        (least (inTheWay (now (text .entry)) (now (state .entry)) slot (asked wanted)) 8)) (outcomeOf r) (now (state .exit)) values) ⌝ }
+    ensures { λ r. ⌜ ((values : List ℕ) → Leaves (granted (now (text .entry)) (now (state .entry)) values slot (asked wanted)) (outcomeOf r) (now (state .exit)) values) ⌝ }
 {
     if starts_at_once(state, wanted) {
         take_object(state, slot, wanted);

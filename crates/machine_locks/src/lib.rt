@@ -1,11 +1,16 @@
-// The lock manager: what is in the way of a send, the locks that it takes, the start of its message, the lowest holder, and the
-// release of a transaction's locks. docs/LOCKS.md explains it; the rules are in crates/machine_words/specs/Request.antt.
+// The lock manager: what is in the way of a send, the locks that it takes, the start of its message, the line of those who wait and
+// their waking, and the release of a transaction's locks. docs/LOCKS.md explains it; the rules are in
+// crates/machine_words/specs/Request.antt and Line.antt.
 mod clash;
 mod grant;
+pub mod line;
+mod own;
 pub mod release;
 pub mod request;
 mod start;
 mod take;
+pub mod wait;
+pub mod wake;
 
 // A send, as the lock rules see it: see `Wanted` in crates/machine_words/specs/Request.antt.
 pub struct Wanted {

@@ -71,7 +71,7 @@ pub fn close(row: &mut [u32])
         return;
     }
     machine_undo::clear_notes(row);
-    clear_first(row, layout::SPARE_AT);
+    clear_first(row, layout::WAITING_AT);
 }
 
 // Undoes a transaction in the values, and closes its row.

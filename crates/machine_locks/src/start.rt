@@ -26,7 +26,7 @@ pub(crate) fn first_object(text: &[u8], tables: &[u32], wanted: Wanted) -> First
 }
 
 // Writes the send's target, name and argument into the row, which then runs a message.
-fn name_message(row: &mut [u32], wanted: Wanted)
+pub(crate) fn name_message(row: &mut [u32], wanted: Wanted)
     ensures { λ _. ⌜ now (row .exit) ≡ namedRow (asked wanted) (now (row .entry)) ⌝ }
 {
     memory::put(row, layout::PHASE_AT, 2);

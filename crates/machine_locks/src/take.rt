@@ -1,4 +1,4 @@
-// Takes the locks of a send, in its slot's row.
+// Takes the locks of a send.
 use super::Wanted;
 ghost use mathlib.Core.Path.{_≡_};
 ghost use Rattle.machine_words.specs.Row.{withBits};
@@ -7,8 +7,10 @@ ghost use Rattle.machine_locks.specs.Asked.{asked};
 ghost use Rattle.machine_locks.specs.Locking.{placeBit, domainBit, lockedTarget};
 ghost use Prim.Native.Nat.{_<_};
 ghost use Rattle.catalog.specs.View.{classCount};
-ghost use Rattle.machine_words.specs.Calls.{tablesOf, rowOf, withRow};
-ghost use Rattle.machine_checks.specs.Lent.{Within};
+ghost use lib.ListN.{take, drop};
+ghost use lib.Seq.{sets};
+ghost use Rattle.machine_words.specs.Line.{tablesOf};
+ghost use Rattle.machine_checks.specs.Lent.{Span};
 ghost use Rattle.machine_locks.specs.Granted.{lockedBelow};
 
 // The mask of the method at a place; 0 past the 32 of a mask.
@@ -54,16 +56,15 @@ pub(crate) fn lock_target(row: &mut [u32], wanted: Wanted)
 }
 
 // Takes a domain's lock on one class, by that class's own method of the name; does nothing where the send does not lock it.
-fn lock_class(text: &[u8], state: &mut [u32], slot: u32, wanted: Wanted, class: u32)
-    requires { ⌜ Within (now state) slot ⌝ }
-    ensures { λ _. ⌜ now (state .exit) ≡ withRow (now (state .entry)) slot (domainLock (now (text .entry)) (tablesOf (now (state .entry))) (asked wanted) (rowOf (now (state .entry)) slot) class) ⌝ }
+fn lock_class(text: &[u8], state: &mut [u32], start: usize, size: usize, wanted: Wanted, class: u32)
+    requires { ⌜ Span (now state) start size ⌝ }
+    ensures { λ _. ⌜ now (state .exit) ≡ sets (now (state .entry)) start (domainLock (now (text .entry)) (tablesOf (now (state .entry))) (asked wanted) (take size (drop start (now (state .entry)))) class) ⌝ }
 {
     let bits = domain_bit(text, &state[0..layout::TABLE_WORDS], wanted, class);
     if bits == 0 {
         return;
     }
-    let start = layout::TABLE_WORDS + slot as usize * layout::ROW_WORDS;
-    let end = start + layout::ROW_WORDS;
+    let end = start + size;
     add_lock(
         &mut state[start..end],
         layout::WHOLE_LOCKS_AT + class as usize,
@@ -72,29 +73,28 @@ fn lock_class(text: &[u8], state: &mut [u32], slot: u32, wanted: Wanted, class: 
 }
 
 // Takes the locks of a send to a domain.
-fn lock_domain(text: &[u8], state: &mut [u32], slot: u32, wanted: Wanted)
-    requires { ⌜ Within (now state) slot ⌝ }
-    ensures { λ _. ⌜ now (state .exit) ≡ withRow (now (state .entry)) slot (lockedBelow (now (text .entry)) (tablesOf (now (state .entry))) (asked wanted)
-        (rowOf (now (state .entry)) slot) (classCount (tablesOf (now (state .entry))))) ⌝ }
+fn lock_domain(text: &[u8], state: &mut [u32], start: usize, size: usize, wanted: Wanted)
+    requires { ⌜ Span (now state) start size ⌝ }
+    ensures { λ _. ⌜ now (state .exit) ≡ sets (now (state .entry)) start (lockedBelow (now (text .entry)) (tablesOf (now (state .entry))) (asked wanted)
+        (take size (drop start (now (state .entry)))) (classCount (tablesOf (now (state .entry))))) ⌝ }
 {
     let count = catalog::class_count(&state[0..layout::TABLE_WORDS]);
     let mut class = 0;
     while class < count {
-        lock_class(text, state, slot, wanted, class);
+        lock_class(text, state, start, size, wanted, class);
         class += 1;
     }
 }
 
-// Takes the locks of a send, in its slot's row.
-pub(crate) fn lock(text: &[u8], state: &mut [u32], slot: u32, wanted: Wanted)
-    requires { ⌜ Within (now state) slot × (wanted .place < 32) ⌝ }
-    ensures { λ _. ⌜ now (state .exit) ≡ withRow (now (state .entry)) slot (locked (now (text .entry)) (tablesOf (now (state .entry))) (asked wanted) (rowOf (now (state .entry)) slot)) ⌝ }
+// Takes the locks of a send, in a row or in the words of a waiting send: the part of the state that starts there.
+pub(crate) fn lock(text: &[u8], state: &mut [u32], start: usize, size: usize, wanted: Wanted)
+    requires { ⌜ Span (now state) start size × (wanted .place < 32) ⌝ }
+    ensures { λ _. ⌜ now (state .exit) ≡ sets (now (state .entry)) start (locked (now (text .entry)) (tablesOf (now (state .entry))) (asked wanted) (take size (drop start (now (state .entry))))) ⌝ }
 {
     if 2 <= wanted.kind {
-        lock_domain(text, state, slot, wanted);
+        lock_domain(text, state, start, size, wanted);
         return;
     }
-    let start = layout::TABLE_WORDS + slot as usize * layout::ROW_WORDS;
-    let end = start + layout::ROW_WORDS;
+    let end = start + size;
     lock_target(&mut state[start..end], wanted);
 }

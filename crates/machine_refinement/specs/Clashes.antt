@@ -11,16 +11,16 @@ use lib.ListN.{length, getD, length-map, List·getD-eq-default}
 use lib.Pow.{pow-mono}
 use borrow.Author.Tests.{not-true}
 use Rattle.layout.specs.Layout.{commutingAt}
-use Rattle.model.specs.Base.{same, any, keep, upto}
+use Rattle.model.specs.Base.{same, any, every, keep, upto}
 use Rattle.model.specs.Word.{Name}
 use Rattle.model.specs.Library.{Member, classAt, memberPlace, methodNames}
 use Rattle.model.specs.Vector.{Program, Vector, commute, vectorOf, commuteIn}
-use Rattle.model.specs.Lock.{Lock, onObject, onClass}
+use Rattle.model.specs.Lock.{Lock, onObject, onClass, lockMethod, samePlace, sameLock}
 use Rattle.laws.specs.Bits.{bit, mask-lt, bit-mask}
 use Rattle.catalog.specs.View.{classWord, classCount, memberCount}
 use Rattle.laws.specs.Lists.{both-left, both-right, same-sound, any-member, member-any, map-at, same-test, both-true, not-of}
 use Rattle.machine_words.specs.Request.{meets}
-use Rattle.machine_refinement.specs.Rep.{Fits, lockWord, lockClass, lockMethod, lockBit, onKnown, Holdable, heldIn, samePlace, sameLock, Holds}
+use Rattle.machine_refinement.specs.Rep.{Fits, lockWord, lockClass, lockBit, onKnown, Holdable, heldIn, Holds}
 use Rattle.machine_words.specs.Meeting.{meet-at, at-meet}
 use Rattle.machine_refinement.specs.Tables.{method-total}
 use Rattle.machine_refinement.specs.Locks.{lock-refl, place-word, place-class, place-known, few-members}
@@ -52,6 +52,23 @@ module _ {A : Type 0} where
       go : (b : Bool) → any q (map f (keep t xs)) ≡ any (λ x. t x && q (f x)) xs
           → any q (map f (cond b (x ∷ keep t xs) (keep t xs))) ≡ ((b && q (f x)) || any (λ x. t x && q (f x)) xs)
       go true e = ap (λ (z : Bool). q (f x) || z) e
+      go false e = e
+
+  pub every-kept : {B : Type 0} (q : B → Bool) (f : A → B) (t : A → Bool) (xs : List A) → every q (map f (keep t xs)) ≡ not (any (λ x. t x && not (q (f x))) xs)
+  unfolding any every keep
+  every-kept q f t [] = refl
+  every-kept q f t (x ∷ xs) = go (t x) (every-kept q f t xs)
+    where
+      rest : Bool
+      rest = any (λ x. t x && not (q (f x))) xs
+
+      first : (y : Bool) → (y && not rest) ≡ not (not y || rest)
+      first true = refl
+      first false = refl
+
+      go : (b : Bool) → every q (map f (keep t xs)) ≡ not rest
+          → every q (map f (cond b (x ∷ keep t xs) (keep t xs))) ≡ not ((b && not (q (f x))) || rest)
+      go true e = ap (λ (z : Bool). q (f x) && z) e ∙ first (q (f x))
       go false e = e
 
 -- Numbers counted up to n are below n.

@@ -2,7 +2,7 @@
 -- since no message that runs has taken 1,024 steps on its object.
 use Prim.Native.Nat.{ℕ, _+_, _-_, _*_, _/_, _%_, _<_}
 use native.Mathlib.Omega.{arith}
-use mathlib.Core.Path.{_≡_, refl, sym, ap, _∙_}
+use mathlib.Core.Path.{_≡_, refl, sym, ap, subst, _∙_}
 use mathlib.Core.Bool.{Bool, true, false, cond}
 use mathlib.Core.Option.{Option, none, some}
 use mathlib.Core.List.{List}
@@ -24,6 +24,7 @@ use Rattle.machine_refinement.specs.Rep.{Running, NowRep, SlotRep, Rep}
 use Rattle.machine_refinement.specs.Stores.{else-word}
 use Rattle.machine_refinement.specs.Locks.{blank-word}
 use Rattle.machine_refinement.specs.Step.{same-turn}
+use Rattle.machine_refinement.specs.WaitRows.{settled-ready}
 
 -- ---- the step that counts in 64 bits
 
@@ -46,10 +47,10 @@ carriedWide row values (Row.answer v) = carried row values (Row.answer v)
 
 -- A step of slot s, with its steps counted in 64 bits, and in 16 bits.
 abbrev pub stepWide : List ℕ → List ℕ → List ℕ → ℕ → After
-stepWide text ws values s = laid ws s (carriedWide (rowOf ws s) values (decidedWide text (tablesOf ws) (rowOf ws s) values))
+stepWide text ws values s = laid text ws s (carriedWide (rowOf ws s) values (decidedWide text (tablesOf ws) (rowOf ws s) values))
 
 abbrev pub stepNarrow : List ℕ → List ℕ → List ℕ → ℕ → After
-stepNarrow text ws values s = laid ws s (carried (rowOf ws s) values (decided text (tablesOf ws) (rowOf ws s) values))
+stepNarrow text ws values s = laid text ws s (carried (rowOf ws s) values (decided text (tablesOf ws) (rowOf ws s) values))
 
 -- ---- both counts of a row
 
@@ -131,7 +132,7 @@ module _ (row values : List ℕ) (early : getD row stepsAt 0 < 1024) where
 
 module _ (text ws values : List ℕ) (p : Program) (w : World (service p)) (rep : Rep text ws values p w) (s : ℕ) (h : s < 8) (two : phaseOf (rowOf ws s) ≡ 2) where
   runs : Running (tablesOf ws) p (rowOf ws s)
-  runs = by-slot (w .slots s) (rep .slots s h)
+  runs = by-slot (w .slots s) (subst (λ (row : List ℕ). SlotRep text (tablesOf ws) p row (w .slots s)) (settled-ready (rowOf ws s) (omega arith)) (rep .slots s h))
     where
       by-run : (r : Option Run) → NowRep text (tablesOf ws) p (rowOf ws s) r → Running (tablesOf ws) p (rowOf ws s)
       by-run none now = absurd (omega arith)
@@ -150,4 +151,4 @@ module _ (text ws values : List ℕ) (p : Program) (w : World (service p)) (rep 
   same-step =
       let row = rowOf ws s in
       let turn = decidedWide text (tablesOf ws) row values in
-      ap (laid ws s) (ap (carried row values) (same-turn text (tablesOf ws) row values count-early) ∙ sym (same-carried row values count-early turn))
+      ap (laid text ws s) (ap (carried row values) (same-turn text (tablesOf ws) row values count-early) ∙ sym (same-carried row values count-early turn))

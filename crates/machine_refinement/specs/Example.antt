@@ -27,6 +27,7 @@ use Rattle.catalog.specs.View.{partOf, classWord, objectWord, statementWord, cl
 use Rattle.laws.specs.Bits.{bit, bit-zero, bit-one}
 use Rattle.theory.specs.VectorLaws.{program-compiled}
 use Rattle.machine_words.specs.Row.{blank}
+use Rattle.machine_words.specs.Line.{countIn}
 use Rattle.machine_words.specs.Calls.{rowOf, phaseOf, misfitOf, mark}
 use Rattle.machine_refinement.specs.Rep.{statementAt, Distinct, Fits, Fresh}
 use Rattle.machine_refinement.specs.Course.{calledAll, InOrder, in-order}
@@ -131,8 +132,8 @@ start = tables ++ replicate slotsWords 0
 
 -- They are the words of a fresh start.
 pub example-fresh : (v : ℕ) → Fresh text start (v ∷ []) p
-unfolding misfitOf rowOf
-example-fresh v = record { fit = refl; fits = fits; rows = row }
+unfolding misfitOf rowOf countIn
+example-fresh v = record { fit = refl; fits = fits; rows = row; line = refl }
   where
     row : (t : ℕ) → t < 8 → rowOf start t ≡ blank
     row zero h = refl

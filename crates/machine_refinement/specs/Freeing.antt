@@ -9,7 +9,7 @@ use lib.ListN.{length, getD, drop, replicate, length-append, length-drop, length
 use lib.Seq.{getD-drop, getD-append-add, ext-getD}
 use lib.Dec.{eqb}
 use borrow.Author.Tests.{eqb-true}
-use Rattle.layout.specs.Layout.{valuesMost, depthAt, changedAt, lockMarksAt, calledAt, headSpareAt, shallowAt, objectLocksAt, marksAt, spareAt, notesAt, rowWords}
+use Rattle.layout.specs.Layout.{valuesMost, depthAt, changedAt, lockMarksAt, calledAt, headSpareAt, shallowAt, objectLocksAt, marksAt, waitingAt, notesAt, rowWords}
 use Rattle.laws.specs.Bits.{bit, bit-zero}
 use Rattle.machine_words.specs.Row.{blank, unnoted, unlocked, released, freed}
 use Rattle.machine_words.specs.Cleared.{zeroed-length, zeroed-at, unnoted-length, unnoted-before, unnoted-at}
@@ -101,9 +101,9 @@ module _ (row : List ℕ) (size : length row ≡ rowWords) where
   unfolding freed
   freed-long = go (eqb (getD row changedAt 0) 0)
     where
-      go : (b : Bool) → length (cond b (released row) (cleared spareAt (omega arith) (unnoted row) unnoted-long)) ≡ rowWords
+      go : (b : Bool) → length (cond b (released row) (cleared waitingAt (omega arith) (unnoted row) unnoted-long)) ≡ rowWords
       go true = released-long
-      go false = cleared-long spareAt (omega arith) (unnoted row) unnoted-long
+      go false = cleared-long waitingAt (omega arith) (unnoted row) unnoted-long
 
   module _ (clean : Clean row) where
     note-freed : (k : ℕ) → k < valuesMost → getD (unnoted row) (notesAt + k) 0 ≡ 0
@@ -115,9 +115,9 @@ module _ (row : List ℕ) (size : length row ≡ rowWords) where
 
     -- Where no value was changed there is no mark, and so no note.
     unchanged : getD row changedAt 0 ≡ 0 → (i : ℕ) → marksAt ≤ i → i < rowWords → getD row i 0 ≡ 0
-    unchanged z i g h = go (decLt i spareAt) (decLt i notesAt)
+    unchanged z i g h = go (decLt i waitingAt) (decLt i notesAt)
       where
-        go : Dec (i < spareAt) → Dec (i < notesAt) → getD row i 0 ≡ 0
+        go : Dec (i < waitingAt) → Dec (i < notesAt) → getD row i 0 ≡ 0
         go (yes l) n = clean .marks z i g l
         go (no l) (yes n) = clean .spare i (omega arith) n
         go (no l) (no n) =
@@ -154,7 +154,7 @@ module _ (row : List ℕ) (size : length row ≡ rowWords) where
     unfolding freed
     word-freed i h = go (eqb (getD row changedAt 0) 0) refl
       where
-        noted : (j : ℕ) → spareAt ≤ j → j < rowWords → getD (unnoted row) j 0 ≡ 0
+        noted : (j : ℕ) → waitingAt ≤ j → j < rowWords → getD (unnoted row) j 0 ≡ 0
         noted j g l = side (decLt j notesAt)
           where
             side : Dec (j < notesAt) → getD (unnoted row) j 0 ≡ 0
@@ -163,9 +163,9 @@ module _ (row : List ℕ) (size : length row ≡ rowWords) where
                 let k : notesAt + (j - notesAt) ≡ j = omega arith in
                 ap (λ (x : ℕ). getD (unnoted row) x 0) (sym k) ∙ note-freed (j - notesAt) (omega arith)
 
-        go : (b : Bool) → eqb (getD row changedAt 0) 0 ≡ b → getD (cond b (released row) (cleared spareAt (omega arith) (unnoted row) unnoted-long)) i 0 ≡ 0
+        go : (b : Bool) → eqb (getD row changedAt 0) 0 ≡ b → getD (cond b (released row) (cleared waitingAt (omega arith) (unnoted row) unnoted-long)) i 0 ≡ 0
         go true e = released-word (eqb-true (getD row changedAt 0) 0 e) i h
-        go false e = cleared-word spareAt (omega arith) (unnoted row) unnoted-long noted i h
+        go false e = cleared-word waitingAt (omega arith) (unnoted row) unnoted-long noted i h
 
     -- Every word is 0.
     pub freed-blank : freed row ≡ blank

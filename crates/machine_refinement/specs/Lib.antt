@@ -15,8 +15,14 @@ pub mod Locks
 pub mod Clashes
 pub mod RowTest
 pub mod Taking
+pub mod OwnLocks
 pub mod Starts
+pub mod WaitRows
 pub mod State
+pub mod Obstacles
+pub mod Begins
+pub mod Waking
+pub mod Joins
 pub mod Transitions
 pub mod Sends
 pub mod Refines

@@ -14,7 +14,7 @@ use Rattle.model.specs.Base.{same, any}
 use Rattle.model.specs.Word.{Name}
 use Rattle.model.specs.Library.{Member, classAt, memberPlace}
 use Rattle.model.specs.Vector.{Program}
-use Rattle.model.specs.Lock.{Lock, onObject, onClass}
+use Rattle.model.specs.Lock.{Lock, onObject, onClass, lockMethod, sameFlag, samePlace, sameLock}
 use Rattle.model.specs.Message as Model
 use Rattle.laws.specs.Bits.{bit, bit-zero, bit-or, bit-one}
 use Rattle.catalog.specs.View.{classCount, memberCount}
@@ -22,7 +22,7 @@ use Rattle.laws.specs.Lists.{both-left, both-right, same-sound, same-refl, eqb-
 use Rattle.laws.specs.Lookup.{name-at}
 use Rattle.machine_words.specs.Row.{blank, lockMarked}
 use Rattle.machine_words.specs.Request.{withLock}
-use Rattle.machine_refinement.specs.Rep.{Fits, lockWord, lockClass, lockMethod, lockBit, onKnown, Holdable, heldIn, sameFlag, samePlace, sameLock, Holds}
+use Rattle.machine_refinement.specs.Rep.{Fits, lockWord, lockClass, lockBit, onKnown, Holdable, heldIn, Holds}
 use Rattle.machine_refinement.specs.Tables.{class-total, object-total, method-total}
 use Rattle.machine_refinement.specs.Runs.{Alike}
 use Rattle.machine_refinement.specs.Stores.{else-word, new-word}
@@ -169,7 +169,7 @@ module _ (text tables : List ℕ) (p : Program) (fits : Fits text tables p) wher
   low-bit : (y : Lock) → Holdable p y → lockBit p y < 32
   low-bit y h = omega (arith, h .1, method-total text tables p fits (lockClass p y) (known-class y (h .0)), few-members tables (lockClass p y) 1)
 
-  module _ (row : List ℕ) (size : length row ≡ rowWords) (y : Lock) (can : Holdable p y) where
+  module _ (row : List ℕ) (size : marksAt ≤ length row) (y : Lock) (can : Holdable p y) where
     taken-bit : (x : Lock) → onKnown p x ≡ true → (k : ℕ)
         → bit (getD (taken p row y) (lockWord x) 0) k ≡ ((samePlace x y && eqb (lockBit p y) k) || bit (getD row (lockWord x) 0) k)
     taken-bit x known k = go (ℕ-discrete (lockWord x) (lockWord y)) (samePlace x y) refl

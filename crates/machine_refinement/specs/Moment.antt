@@ -14,8 +14,9 @@ use Rattle.theory.specs.VectorLaws.{Compiled}
 use Rattle.theory.specs.CommitOrder.{left, AtThisMoment, at-every-moment-by}
 use Rattle.machine_words.specs.Row.{noteAt}
 use Rattle.machine_words.specs.Calls.{tablesOf, rowOf, phaseOf}
-use Rattle.machine_refinement.specs.Rep.{Rep, Fresh}
-use Rattle.machine_refinement.specs.State.{slot-stands, closed-phase}
+use Rattle.machine_refinement.specs.Rep.{settled, Rep, Fresh}
+use Rattle.machine_refinement.specs.WaitRows.{settled-notes}
+use Rattle.machine_refinement.specs.State.{row-size, slot-stands, closed-phase}
 use Rattle.machine_refinement.specs.Refines.{fresh-rep}
 use Rattle.machine_refinement.specs.Course.{AfterAll, calledAll, all-refine, courseOf}
 
@@ -32,7 +33,9 @@ module _ (text ws values : List ℕ) (p : Program) (w : World (service p)) (rep 
 
   row-back : (n : ℕ) → n < 8 → (fields : List ℕ) → putBack (noteAt (rowOf ws n)) fields ≡ putBackSlot (service p) (w .slots n) fields
   row-back n h fields =
-      ap (λ (u : Undo). putBack u fields) (fun-ext (slot-stands text (tablesOf ws) p (rowOf ws n) (w .slots n) (rep .slots n h) .undo))
+      let row = rowOf ws n in
+      ap (λ (u : Undo). putBack u fields) (fun-ext (λ k.
+      sym (settled-notes row (row-size text ws values p w rep n h) k) ∙ slot-stands text (tablesOf ws) p (settled row) (w .slots n) (rep .slots n h) .undo k))
       ∙ stands-back (w .slots n) fields
 
   -- The rows' notes undo what the world's transactions undo.

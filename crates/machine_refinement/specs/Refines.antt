@@ -5,18 +5,23 @@ use native.Mathlib.Omega.{arith}
 use mathlib.Core.Path.{_≡_, refl, sym, ap, subst, _∙_}
 use mathlib.Core.Bool.{Bool, true, false, not, cond}
 use mathlib.Core.Option.{Option, none, some}
-use mathlib.Core.List.{List}
+use mathlib.Core.Logic.{_≢_}
+use mathlib.Core.List.{List, List·Memᴰ·not-nil}
 use lib.Dec.{eqb, leb}
-use borrow.Author.Tests.{leb-true, leb-false, lt-ltb, le-ltb}
+use borrow.Author.Tests.{eqb-true, eqb-false, eq-eqb, ne-eqb, leb-true, leb-false, lt-ltb, le-ltb}
 use Rattle.model.specs.Vector.{Program}
 use Rattle.model.specs.Message.{Run}
-use Rattle.model.specs.Service.{Slot, closed, opened, Transaction, World, fresh, withFields, onOpen, onSlot, slotOf, inRange}
+use Rattle.model.specs.Service.{Slot, closed, opened, Transaction, World, fresh, withFields, standing, waits, onReady, onOpen, onSlot, slotOf, inRange}
 use Rattle.model.specs.Service as Told
 use Rattle.model.specs.Machine.{service, Call, send, step, commit, abort, call}
-use Rattle.machine_words.specs.Calls.{refused, tablesOf, rowOf, phaseOf, slotIn, byPhase, onClosed, onIdle, onRunning, called}
-use Rattle.machine_refinement.specs.Rep.{OpenRep, NowRep, SlotRep, Rep, Fresh}
+use Rattle.laws.specs.Lists.{none-any, member-any}
+use Rattle.machine_words.specs.Line.{withdrawn, firstInLine}
+use Rattle.machine_words.specs.Calls.{refused, tablesOf, rowOf, phaseOf, slotIn, byPhase, onClosed, onIdle, onRunning, onWaiting, called}
+use Rattle.machine_refinement.specs.Rep.{OpenRep, NowRep, SlotRep, settled, Rep, Fresh}
 use Rattle.machine_refinement.specs.Locks.{blank-word}
-use Rattle.machine_refinement.specs.Transitions.{Follows, commits, aborts, steps}
+use Rattle.machine_refinement.specs.WaitRows.{settled-ready, settled-waits}
+use Rattle.machine_refinement.specs.State.{ready-phase, closed-phase, not-waiting}
+use Rattle.machine_refinement.specs.Transitions.{Follows, withdraws, commits, aborts, steps}
 use Rattle.machine_refinement.specs.Sends.{sends-by}
 
 slot-is : (p : Program) (c : Call) → slotIn c ≡ slotOf (service p) c
@@ -29,41 +34,79 @@ module _ (text ws values : List ℕ) (p : Program) (w₀ : World (service p)) (r
   abbrev w : World (service p)
   w = withFields (service p) w₀ values
 
+  -- A slot that does not wait, or waits, in the words and in the model.
+  waits-not : (t : ℕ) → t < 8 → phaseOf (rowOf ws t) ≢ 3 → waits (service p) (w .line) t ≡ false
+  waits-not t h ne = none-any (λ v. eqb (v .slot) t) (w .line) (λ v i. ne-eqb (v .slot) t (not-waiting text ws values p w rep t h ne v i))
+
+  waits-there : (t : ℕ) → t < 8 → phaseOf (rowOf ws t) ≡ 3 → waits (service p) (w .line) t ≡ true
+  waits-there t h e = let v = rep .waiting t h e in member-any (λ v. eqb (v .slot) t) (v .1) (eq-eqb (v .0 .slot) t (v .2))
+
   -- By the phase of the slot's row.
-  closed-follows : (c : Call) → slotIn c < 8 → Follows text p (onClosed text ws values c) (Told.onClosed (service p) w c)
-  closed-follows (send s q) h = sends-by text ws values p w₀ rep s h q
-  closed-follows (step s) h = (refl, rep)
-  closed-follows (commit s) h = (refl, rep)
-  closed-follows (abort s) h = (refl, rep)
+  closed-follows : (c : Call) → slotIn c < 8 → w .slots (slotIn c) ≡ closed → phaseOf (rowOf ws (slotIn c)) ≡ 0
+      → Follows text p (onClosed text ws values c) (Told.onClosed (service p) w c)
+  closed-follows (send s q) h e z = sends-by text ws values p w₀ rep s h (ap (λ x. standing (service p) x .running) e) (λ x. omega arith) q
+  closed-follows (step s) h e z = (refl, rep)
+  closed-follows (commit s) h e z = (refl, rep)
+  closed-follows (abort s) h e z = (refl, rep)
 
-  idle-follows : (c : Call) → slotIn c < 8 → (t : Transaction (service p)) → OpenRep text (tablesOf ws) p (rowOf ws (slotIn c)) t
-      → Follows text p (onIdle text ws values c) (Told.onIdle (service p) w t c)
-  idle-follows (send s q) h t o = sends-by text ws values p w₀ rep s h q
-  idle-follows (step s) h t o = (refl, rep)
-  idle-follows (commit s) h t o = commits text ws values p w₀ rep s h t o
-  idle-follows (abort s) h t o = aborts text ws values p w₀ rep s h t o
+  -- Of an open slot whose row is its transaction's.
+  record Here (c : Call) (t : Transaction (service p)) : Type 0 where
+    slot : slotIn c < 8
+    is : w .slots (slotIn c) ≡ opened t
+    open-row : OpenRep text (tablesOf ws) p (rowOf ws (slotIn c)) t
 
-  running-follows : (c : Call) → slotIn c < 8 → (t : Transaction (service p)) → OpenRep text (tablesOf ws) p (rowOf ws (slotIn c)) t
-      → (r : Run) → NowRep text (tablesOf ws) p (rowOf ws (slotIn c)) (some r) → Follows text p (onRunning text ws values c) (Told.onRunning (service p) w t r c)
-  running-follows (send s q) h t o r n = (refl, rep)
-  running-follows (step s) h t o r n = steps text ws values p w₀ rep s h t o r n
-  running-follows (commit s) h t o r n = (refl, rep)
-  running-follows (abort s) h t o r n = aborts text ws values p w₀ rep s h t o
+  idle-follows : (c : Call) (t : Transaction (service p)) → Here c t → t .running ≡ none → Follows text p (onIdle text ws values c) (Told.onIdle (service p) w t c)
+  idle-follows (send s q) t y n =
+      sends-by text ws values p w₀ rep s (y .slot) (ap (λ x. standing (service p) x .running) (y .is) ∙ n) (ready-phase text (tablesOf ws) p (rowOf ws s) t (y .open-row)) q
+  idle-follows (step s) t y n = (refl, rep)
+  idle-follows (commit s) t y n = commits text ws values p w₀ rep s (y .slot) t (y .open-row)
+  idle-follows (abort s) t y n = aborts text ws values p w₀ rep s (y .slot) t (y .open-row)
 
-  open-follows : (c : Call) → slotIn c < 8 → (t : Transaction (service p)) → OpenRep text (tablesOf ws) p (rowOf ws (slotIn c)) t
-      → (r : Option Run) → NowRep text (tablesOf ws) p (rowOf ws (slotIn c)) r
-      → Follows text p (byPhase text ws values c (phaseOf (rowOf ws (slotIn c)))) (onOpen (service p) w c t r)
-  open-follows c h t o none n =
-      subst (λ (i : ℕ). Follows text p (byPhase text ws values c i) (onOpen (service p) w c t none)) (sym n) (idle-follows c h t o)
-  open-follows c h t o (some r) n =
-      subst (λ (i : ℕ). Follows text p (byPhase text ws values c i) (onOpen (service p) w c t (some r))) (sym (n .0)) (running-follows c h t o r n)
+  running-follows : (c : Call) (t : Transaction (service p)) → Here c t → (r : Run) → NowRep text (tablesOf ws) p (rowOf ws (slotIn c)) (some r)
+      → Follows text p (onRunning text ws values c) (Told.onRunning (service p) w t r c)
+  running-follows (send s q) t y r n = (refl, rep)
+  running-follows (step s) t y r n = steps text ws values p w₀ rep s (y .slot) t (y .open-row) r n
+  running-follows (commit s) t y r n = (refl, rep)
+  running-follows (abort s) t y r n = aborts text ws values p w₀ rep s (y .slot) t (y .open-row)
 
-  slot-follows : (c : Call) → slotIn c < 8 → (z : Slot (service p)) → SlotRep text (tablesOf ws) p (rowOf ws (slotIn c)) z
+  ready-follows : (c : Call) (t : Transaction (service p)) → Here c t → (r : Option Run) → t .running ≡ r → NowRep text (tablesOf ws) p (rowOf ws (slotIn c)) r
+      → Follows text p (byPhase text ws values c (phaseOf (rowOf ws (slotIn c)))) (onReady (service p) w c t r)
+  ready-follows c t y none e n =
+      subst (λ (i : ℕ). Follows text p (byPhase text ws values c i) (onReady (service p) w c t none)) (sym n) (idle-follows c t y e)
+  ready-follows c t y (some r) e n =
+      subst (λ (i : ℕ). Follows text p (byPhase text ws values c i) (onReady (service p) w c t (some r))) (sym (n .0)) (running-follows c t y r n)
+
+  waiting-follows : (c : Call) → slotIn c < 8 → (t : Transaction (service p)) → OpenRep text (tablesOf ws) p (withdrawn (rowOf ws (slotIn c))) t
+      → Follows text p (onWaiting text ws values c) (Told.onWaiting (service p) w t c)
+  waiting-follows (send s q) h t o = (refl, rep)
+  waiting-follows (step s) h t o = (refl, rep)
+  waiting-follows (commit s) h t o = (refl, rep)
+  waiting-follows (abort s) h t o = withdraws text ws values p w₀ rep s h t o
+
+  slot-follows : (c : Call) → slotIn c < 8 → (z : Slot (service p)) → w .slots (slotIn c) ≡ z → SlotRep text (tablesOf ws) p (settled (rowOf ws (slotIn c))) z
       → Follows text p (byPhase text ws values c (phaseOf (rowOf ws (slotIn c)))) (onSlot (service p) w c z)
-  slot-follows c h closed e =
-      subst (λ (i : ℕ). Follows text p (byPhase text ws values c i) (onSlot (service p) w c closed))
-      (sym (ap phaseOf e ∙ blank-word 0)) (closed-follows c h)
-  slot-follows c h (opened t) o = open-follows c h t o (t .running) (o .now)
+  slot-follows c h closed is e =
+      let z = closed-phase text ws values p w rep (slotIn c) h is in
+      subst (λ (i : ℕ). Follows text p (byPhase text ws values c i) (onSlot (service p) w c closed)) (sym z) (closed-follows c h is z)
+  slot-follows c h (opened t) is o =
+      subst (λ (s : ℕ). Follows text p (byPhase text ws values c (phaseOf row)) (onOpen (service p) w c t (waits (service p) (w .line) s))) (slot-is p c)
+      (go (eqb (phaseOf row) 3) refl)
+    where
+      row : List ℕ
+      row = rowOf ws (slotIn c)
+
+      go : (b : Bool) → eqb (phaseOf row) 3 ≡ b
+          → Follows text p (byPhase text ws values c (phaseOf row)) (onOpen (service p) w c t (waits (service p) (w .line) (slotIn c)))
+      go true e =
+          let three = eqb-true (phaseOf row) 3 e in
+          subst (λ (b : Bool). Follows text p (byPhase text ws values c (phaseOf row)) (onOpen (service p) w c t b)) (sym (waits-there (slotIn c) h three))
+          (subst (λ (i : ℕ). Follows text p (byPhase text ws values c i) (Told.onWaiting (service p) w t c)) (sym three)
+          (waiting-follows c h t (subst (λ (r : List ℕ). OpenRep text (tablesOf ws) p r t) (settled-waits row three) o)))
+      go false e =
+          let ne = eqb-false (phaseOf row) 3 e in
+          let here : OpenRep text (tablesOf ws) p row t = subst (λ (r : List ℕ). OpenRep text (tablesOf ws) p r t) (settled-ready row ne) o in
+          subst (λ (b : Bool). Follows text p (byPhase text ws values c (phaseOf row)) (onOpen (service p) w c t b)) (sym (waits-not (slotIn c) h ne))
+          (ready-follows c t (record { slot = h; is = is; open-row = here }) (t .running) refl (here .now))
 
   call-follows : (c : Call) → Follows text p (called text ws values c) (call p w c)
   unfolding called
@@ -82,7 +125,7 @@ module _ (text ws values : List ℕ) (p : Program) (w₀ : World (service p)) (r
           subst (λ (b : Bool). Follows text p (byPhase text ws values c (phaseOf (rowOf ws (slotIn c)))) (inRange (service p) w c b))
           (sym (lt-ltb (slotOf (service p) c) 8 (omega (arith, slot-is p c))))
           (subst (λ (i : ℕ). Follows text p (byPhase text ws values c (phaseOf (rowOf ws (slotIn c)))) (onSlot (service p) w c (w₀ .slots i))) (slot-is p c)
-          (slot-follows c h (w₀ .slots (slotIn c)) (rep .slots (slotIn c) h)))
+          (slot-follows c h (w₀ .slots (slotIn c)) refl (rep .slots (slotIn c) h)))
 
 -- Refinement of every call: the answer is the model's, and the words and values after it represent the world after it.
 pub refines : (text ws values : List ℕ) (p : Program) (w : World (service p)) → Rep text ws values p w → (c : Call)
@@ -94,4 +137,18 @@ refines text ws values p w rep c =
 
 -- The words of a fresh start represent the machine after a start.
 pub fresh-rep : (text ws values : List ℕ) (p : Program) → Fresh text ws values p → Rep text ws values p (fresh (service p) values)
-fresh-rep text ws values p f = record { fit = f .fit; fits = f .fits; fields = refl; slots = f .rows }
+fresh-rep text ws values p f =
+    record {
+      fit = f .fit;
+      fits = f .fits;
+      fields = refl;
+      slots = λ t h. settled-ready (rowOf ws t) (quiet t h) ∙ f .rows t h;
+      places = ap (firstInLine ws) (f .line);
+      below = λ v i. absurd (List·Memᴰ·not-nil i);
+      waits = λ v i. absurd (List·Memᴰ·not-nil i);
+      waiting = λ t h e. absurd (quiet t h e);
+      once = tt;
+    }
+  where
+    quiet : (t : ℕ) → t < 8 → phaseOf (rowOf ws t) ≢ 3
+    quiet t h e = omega (arith, ap phaseOf (f .rows t h), blank-word 0, e)

@@ -6,7 +6,7 @@ use mathlib.Core.List.{List}
 use Rattle.model.specs.Vector.{Program}
 use Rattle.model.specs.Service.{Answer, done, going, answer, refuse, held, stopped, World}
 use Rattle.model.specs.Machine.{service, Call, call}
-use Rattle.twophase.specs.Moves.{Move, refused, clashes, starts, goes-on, replies, halts, commits, aborts, moves}
+use Rattle.twophase.specs.Moves.{Move, refused, joins, starts, goes-on, replies, halts, commits, aborts, moves}
 use Rattle.machine_words.specs.Calls.{called}
 use Rattle.machine_refinement.specs.Rep.{Rep}
 use Rattle.machine_refinement.specs.Refines.{refines}
@@ -23,13 +23,13 @@ refusal stopped = 31
 -- A call of the model refuses with 31 or more.
 move-number : {p : Program} {w : World (service p)} {c : Call} {y : Answer × World (service p)} → Move (service p) w c y → 31 ≤ refusal (y .0)
 move-number (refused c n g) = g
-move-number (clashes s q m k a e) = omega arith
+move-number (joins s q m k a h e) = omega arith
 move-number (starts s q m a e) = omega arith
-move-number (goes-on s t r r′ e a v) = omega arith
-move-number (replies s t r n e a v) = omega arith
-move-number (halts s t r a v) = omega arith
-move-number (commits s t below o n) = omega arith
-move-number (aborts s t below o) = omega arith
+move-number (goes-on s y r r′ e a v) = omega arith
+move-number (replies s y r n e a v) = omega arith
+move-number (halts s y r a v) = omega arith
+move-number (commits s y below o still n) = omega arith
+move-number (aborts s y below o) = omega arith
 
 -- On words that represent a world no call gives 21 or 24: every number that it refuses with is 31 or more.
 pub never-unfit : (text ws values : List ℕ) (p : Program) (w : World (service p)) → Rep text ws values p w → (c : Call) (n : ℕ)

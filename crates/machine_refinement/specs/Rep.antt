@@ -3,11 +3,11 @@ use Prim.Native.Nat.{ℕ, zero, suc, _+_, _-_, _/_, _%_, _≤_, _<_}
 use mathlib.Core.Path.{_≡_}
 use mathlib.Core.Bool.{Bool, true, false, cond, _&&_}
 use mathlib.Core.Option.{Option, none, some}
-use mathlib.Core.List.{List, [], _∷_, map}
+use mathlib.Core.List.{List, [], _∷_, map, List·Memᴰ}
 use lib.ListN.{length, getD, take, drop}
 use lib.Dec.{eqb, ltb}
-use Rattle.layout.specs.Layout.{valuesMost, valueCountAt, domainAt, commutingAt, objectClassAt, objectValuesAt, depthAt, stepsAt, sumAt, objectAt, kindAt, numberAt, nameAt, argumentAt, changedAt, lockMarksAt, calledAt, nextAt, endAt, argAt, gotAt, replyAt, shallowAt, objectLocksAt, classLocksAt, wholeLocksAt, marksAt, spareAt, notesAt}
-use Rattle.model.specs.Base.{any, same}
+use Rattle.layout.specs.Layout.{valuesMost, valueCountAt, domainAt, commutingAt, objectClassAt, objectValuesAt, depthAt, stepsAt, sumAt, objectAt, kindAt, numberAt, nameAt, argumentAt, changedAt, lockMarksAt, calledAt, nextAt, endAt, argAt, gotAt, replyAt, shallowAt, objectLocksAt, classLocksAt, wholeLocksAt, marksAt, waitingAt, notesAt}
+use Rattle.model.specs.Base.{any}
 use Rattle.model.specs.Text.{words}
 use Rattle.model.specs.Word.{Name}
 use Rattle.model.specs.Expression as Expression
@@ -17,9 +17,10 @@ use Rattle.model.specs.Vector.{Program}
 use Rattle.model.specs.Image.{commuteMask}
 use Rattle.model.specs.Message.{Target, object, class, domain, Message, Activation, Run, baseOf}
 use Rattle.model.specs.Message as Model
-use Rattle.model.specs.Lock.{Lock, onObject, onClass}
-use Rattle.model.specs.Service.{Slot, closed, opened, Transaction, World}
+use Rattle.model.specs.Lock.{Lock, onObject, onClass, locksFor, lockMethod, sameLock}
+use Rattle.model.specs.Service.{Slot, closed, opened, Transaction, Waiter, World}
 use Rattle.model.specs.Machine.{service}
+use Rattle.twophase.specs.Line.{Once}
 use Rattle.theory.specs.Copies.{Copied}
 use Rattle.theory.specs.Named.{Names}
 use Rattle.theory.specs.NamedRuns.{NamedRun}
@@ -27,7 +28,8 @@ use Rattle.catalog.specs.View.{nameOf, partOf, classWord, objectWord, statement
 use Rattle.laws.specs.Bits.{bit}
 use Rattle.machine_words.specs.Row.{act, noteAt, blank}
 use Rattle.machine_words.specs.Turn.{targetThere}
-use Rattle.machine_words.specs.Calls.{tablesOf, rowOf, phaseOf, misfitOf}
+use Rattle.machine_words.specs.Line.{waitingIn, wantedIn, withdrawn, countIn, firstInLine}
+use Rattle.machine_words.specs.Calls.{tablesOf, rowOf, phaseOf, misfitOf, wanted}
 
 -- ---- what a row represents
 
@@ -88,10 +90,6 @@ abbrev pub lockClass : Program → Lock → ℕ
 lockClass p (onObject o m) = Model.classOf p o
 lockClass p (onClass c m w) = c
 
-abbrev pub lockMethod : Lock → Name
-lockMethod (onObject o m) = m
-lockMethod (onClass c m w) = m
-
 unfoldable pub lockBit : Program → Lock → ℕ
 unfolding memberPlace
 lockBit p x = memberPlace (classAt (p .library) (lockClass p x) .methods) (lockMethod x)
@@ -108,22 +106,6 @@ Holdable p x = (onKnown p x ≡ true) × (lockBit p x < length (classAt (p .libr
 unfoldable pub heldIn : Program → List ℕ → Lock → Bool
 unfolding lockBit bit
 heldIn p row x = bit (getD row (lockWord x) 0) (lockBit p x)
-
-abbrev pub sameFlag : Bool → Bool → Bool
-sameFlag true b = b
-sameFlag false true = false
-sameFlag false false = true
-
--- Whether two locks are in one word: both on one object, or on one class with one flag.
-abbrev pub samePlace : Lock → Lock → Bool
-samePlace (onObject o m) (onObject q n) = eqb o q
-samePlace (onObject o m) (onClass d n v) = false
-samePlace (onClass c m w) (onObject q n) = false
-samePlace (onClass c m w) (onClass d n v) = eqb c d && sameFlag w v
-
--- Whether two locks are equal: in one place, for one method.
-abbrev pub sameLock : Lock → Lock → Bool
-sameLock x y = samePlace x y && same (lockMethod x) (lockMethod y)
 
 -- The row's lock words hold the locks of the list; a bit of no method is 0.
 pub record Holds (p : Program) (row : List ℕ) (held : List Lock) : Type 0 where
@@ -187,8 +169,8 @@ Shallow row = (getD row depthAt 0 ≤ 1) × ((i : ℕ) → shallowAt ≤ i → i
 -- lock was taken, the activations past the first where no self-call was made.
 pub record Clean (row : List ℕ) : Type 0 where
   pub notes : (k : ℕ) → k < valuesMost → bit (getD row (marksAt + k / 32) 0) (k % 32) ≡ false → getD row (notesAt + k) 0 ≡ 0
-  pub marks : getD row changedAt 0 ≡ 0 → (i : ℕ) → marksAt ≤ i → i < spareAt → getD row i 0 ≡ 0
-  pub spare : (i : ℕ) → spareAt ≤ i → i < notesAt → getD row i 0 ≡ 0
+  pub marks : getD row changedAt 0 ≡ 0 → (i : ℕ) → marksAt ≤ i → i < waitingAt → getD row i 0 ≡ 0
+  pub spare : (i : ℕ) → waitingAt ≤ i → i < notesAt → getD row i 0 ≡ 0
   pub locks : (i : ℕ) → objectLocksAt ≤ i → i < marksAt → bit (getD row lockMarksAt 0) (i / 8) ≡ false → getD row i 0 ≡ 0
   pub calls : getD row calledAt 0 ≡ 0 → Shallow row
 
@@ -203,15 +185,63 @@ abbrev pub SlotRep : List ℕ → List ℕ → (p : Program) → List ℕ → Sl
 SlotRep text tables p row closed = row ≡ blank
 SlotRep text tables p row (opened t) = OpenRep text tables p row t
 
--- The lent text, words and values represent a world of the program.
-pub record Rep (text ws values : List ℕ) (p : Program) (w : World (service p)) : Type 0 where
+-- ---- the line
+
+-- The name of the method at place k of class c.
+abbrev pub methodOf : Program → ℕ → ℕ → Name
+methodOf p c k = getD (methodNames (p .library) c) k []
+
+-- A target by its kind and number, with the class that has its methods.
+pub data Aims (tables : List ℕ) (c : ℕ) : ℕ → ℕ → Target → Type 0 where
+  one : (o : ℕ) → o < objectCount tables → objectWord tables o objectClassAt ≡ c → Aims tables c 0 o (object o)
+  each : Aims tables c 1 c (class c)
+  whole : Aims tables c 2 c (domain c)
+
+-- The message to a target, for the method at place k of class c.
+abbrev pub messageFor : Program → Target → ℕ → ℕ → ℕ → Message
+messageFor p t c k a = record { target = t; method = methodOf p c k; argument = a }
+
+-- The row's slot waits, and the words of its waiting send represent the message and hold its locks.
+pub record Waits (text tables : List ℕ) (p : Program) (row : List ℕ) (m : Message) : Type 0 where
+  pub phase : phaseOf row ≡ 3
+  pub class : ℕ
+  pub place : ℕ
+  pub argument : ℕ
+  pub kind : ℕ
+  pub number : ℕ
+  pub target : Target
+  pub known : class < classCount tables
+  pub has : place < memberCount tables class 1
+  pub aims : Aims tables class kind number target
+  pub wants : wantedIn (waitingIn row) ≡ wanted tables kind number class place argument
+  pub sends : m ≡ messageFor p target class place argument
+  pub locks : Holds p (waitingIn row) (locksFor p target (methodOf p class place))
+
+-- The row of a slot, without its waiting send where it waits.
+abbrev pub settled : List ℕ → List ℕ
+settled row = cond (eqb (phaseOf row) 3) (withdrawn row) row
+
+-- ---- worlds
+
+-- The lent text, words and values represent a world of the program, where the first n places of the line are the world's, and `all` are
+-- those who wait: in the middle of waking they are more than the world's line.
+pub record RepAt (text ws values : List ℕ) (p : Program) (w : World (service p)) (n : ℕ) (all : List (Waiter (service p))) : Type 0 where
   pub fit : misfitOf text ws values ≡ 0
   pub fits : Fits text (tablesOf ws) p
   pub fields : w .fields ≡ values
-  pub slots : (t : ℕ) → t < 8 → SlotRep text (tablesOf ws) p (rowOf ws t) (w .slots t)
+  pub slots : (t : ℕ) → t < 8 → SlotRep text (tablesOf ws) p (settled (rowOf ws t)) (w .slots t)
+  pub places : firstInLine ws n ≡ map (λ v. v .slot) (w .line)
+  pub below : (v : Waiter (service p)) → List·Memᴰ v all → v .slot < 8
+  pub waits : (v : Waiter (service p)) → List·Memᴰ v all → Waits text (tablesOf ws) p (rowOf ws (v .slot)) (v .message)
+  pub waiting : (t : ℕ) → t < 8 → phaseOf (rowOf ws t) ≡ 3 → (v : Waiter (service p)) × List·Memᴰ v all × (v .slot ≡ t)
+  pub once : Once (service p) all
 
--- The words of a fresh start: they fit, the tables fit the program, and the eight rows are blank.
+abbrev pub Rep : (text ws values : List ℕ) (p : Program) → World (service p) → Type 0
+Rep text ws values p w = RepAt text ws values p w (countIn ws) (w .line)
+
+-- The words of a fresh start: they fit, the tables fit the program, the eight rows are blank, and nobody waits.
 pub record Fresh (text ws values : List ℕ) (p : Program) : Type 0 where
   pub fit : misfitOf text ws values ≡ 0
   pub fits : Fits text (tablesOf ws) p
   pub rows : (t : ℕ) → t < 8 → rowOf ws t ≡ blank
+  pub line : countIn ws ≡ 0

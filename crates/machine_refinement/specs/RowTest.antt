@@ -4,37 +4,27 @@ use native.Mathlib.Omega.{arith}
 use native.Mathlib.Decide.{decLt}
 use mathlib.Core.Path.{_≡_, refl, sym, ap, ap₂, _∙_}
 use mathlib.Core.Bool.{Bool, true, false, not, _&&_, _||_, or-false}
-use mathlib.Core.List.{List, [], map}
+use mathlib.Core.List.{List, map}
 use lib.ListN.{length, getD}
 use lib.Bits.{bitOr}
 use lib.Dec.{eqb, ltb}
 use borrow.Author.Tests.{lt-ltb, le-ltb}
-use Rattle.layout.specs.Layout.{commutingAt, objectClassAt, objectLocksAt, classLocksAt, wholeLocksAt}
+use Rattle.layout.specs.Layout.{commutingAt, objectLocksAt, classLocksAt, wholeLocksAt}
 use Rattle.model.specs.Base.{any, keep, upto}
 use Rattle.model.specs.Word.{Name}
-use Rattle.model.specs.Library.{classAt, memberPlace, methodNames}
+use Rattle.model.specs.Library.{classAt, memberPlace}
 use Rattle.model.specs.Vector.{Program, commuteIn}
-use Rattle.model.specs.Message.{Target, object, class, domain}
+use Rattle.model.specs.Message.{Target, object, domain}
 use Rattle.model.specs.Message as Model
-use Rattle.model.specs.Lock.{Lock, onObject, onClass, domainOf, locksFor, lockClash, locksClash}
-use Rattle.catalog.specs.View.{objectWord, classWord, classCount, objectCount, memberCount}
+use Rattle.model.specs.Lock.{Lock, onObject, onClass, domainOf, locksFor, lockClash, locksClash, sameFlag}
+use Rattle.catalog.specs.View.{classWord, classCount, objectCount, memberCount}
 use Rattle.laws.specs.Lists.{none-any, both-true}
 use Rattle.machine_words.specs.Request.{Wanted, meets, placeIn, commutingIn, inDomain, concerns, classMeets, rowMeets}
 use Rattle.machine_words.specs.Calls.{wanted}
-use Rattle.machine_refinement.specs.Rep.{Fits, onKnown, sameFlag, Holds}
+use Rattle.machine_refinement.specs.Rep.{Fits, onKnown, Holds, methodOf, Aims, one, each, whole}
 use Rattle.machine_words.specs.Meeting.{meets-or}
 use Rattle.machine_refinement.specs.Tables.{class-total, object-total, methods-are, method-total, method-name, class-is}
 use Rattle.machine_refinement.specs.Clashes.{any-same, any-or, any-kept, below-count, small, strange-commutes, word-meets, against}
-
--- The name of the method at place k of class c.
-abbrev pub methodOf : Program → ℕ → ℕ → Name
-methodOf p c k = getD (methodNames (p .library) c) k []
-
--- A target by its kind and number, with the class that has its methods.
-pub data Aims (tables : List ℕ) (c : ℕ) : ℕ → ℕ → Target → Type 0 where
-  one : (o : ℕ) → o < objectCount tables → objectWord tables o objectClassAt ≡ c → Aims tables c 0 o (object o)
-  each : Aims tables c 1 c (class c)
-  whole : Aims tables c 2 c (domain c)
 
 module _ (text tables : List ℕ) (p : Program) (fits : Fits text tables p) where
   -- A lock on a class, or on an object, that exists is known.

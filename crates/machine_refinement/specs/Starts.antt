@@ -22,13 +22,12 @@ use Rattle.catalog.specs.Bodies.{bodyIn, bodyAt}
 use Rattle.machine_words.specs.Turn.{targetThere, objectFrom}
 use Rattle.machine_words.specs.Request.{Wanted, First, on, past, nowhere, firstOn, firstOf, namedRow, pastRow, entered}
 use Rattle.machine_words.specs.Calls.{wanted}
-use Rattle.machine_refinement.specs.Rep.{Fits, Running, targetBy, messageOf, objectsFrom, runOf}
+use Rattle.machine_refinement.specs.Rep.{Fits, Running, targetBy, messageOf, objectsFrom, runOf, Aims, one, each, whole, messageFor}
 use Rattle.machine_refinement.specs.Tables.{methodFor, class-total, object-total, method-total, method-name, class-is, resolving, body-at}
 use Rattle.machine_refinement.specs.Objects.{visited-is, next-within, next-some, next-none}
 use Rattle.machine_refinement.specs.Runs.{Alike}
 use Rattle.machine_refinement.specs.Stores.{else-word, new-word}
 use Rattle.machine_refinement.specs.Visits.{visitRow, head-length, head-other, head-depth, empty-run, empty-running, visit-length, visit-other, visit-body, visit-depth, visit-run, visit-running}
-use Rattle.machine_refinement.specs.RowTest.{Aims, one, each, whole, methodOf}
 
 target-of : (tables : List ℕ) (c kind n : ℕ) (t : Target) → Aims tables c kind n t → targetBy kind n ≡ t
 target-of tables c kind n t (one o h e) = refl
@@ -40,10 +39,6 @@ unfolding targetThere
 there-of tables c kind n t h (one o l e) = lt-ltb o (objectCount tables) l
 there-of tables c kind n t h each = lt-ltb c (classCount tables) h
 there-of tables c kind n t h whole = lt-ltb c (classCount tables) h
-
--- The message to a target, for the method at place k of class c.
-abbrev pub messageFor : Program → Target → ℕ → ℕ → ℕ → Message
-messageFor p t c k a = record { target = t; method = methodOf p c k; argument = a }
 
 -- A message that starts somewhere.
 abbrev pub There : First → Type 0

@@ -1,28 +1,34 @@
 -- What a slot's phase represents in the world's slot, what its row represents of the transaction that a send to it belongs to, and
 -- what the words represent where a call writes one row.
-use Prim.Native.Nat.{ℕ, _+_, _/_, _%_, _<_}
+use Prim.Native.Nat.{ℕ, suc, _+_, _/_, _%_, _≤_, _<_}
 use native.Mathlib.Omega.{arith}
+use native.Mathlib.Decide.{ℕ-discrete}
 use mathlib.Core.Path.{_≡_, refl, sym, ap, ap₂, subst, _∙_}
-use mathlib.Core.Logic.{_≢_}
+use mathlib.Core.Logic.{_≢_, _⊎_, inr, ⊎-elim}
 use mathlib.Core.Bool.{Bool, true, false, cond}
 use mathlib.Core.Option.{Option, none, some}
-use mathlib.Core.List.{List}
-use lib.ListN.{length}
-use lib.Dec.{ltb}
-use Rattle.layout.specs.Layout.{valuesMost, setMarksAt, notesAt, rowWords}
+use mathlib.Core.List.{List, [], _∷_, _++_, map, map-append, List·Memᴰ}
+use lib.ListN.{length, getD, set, take, drop, length-drop}
+use lib.Seq.{getD-set-same, drop-set-lt, drop-set-add, take-suc-set}
+use lib.Dec.{eqb, ltb}
+use borrow.Author.Tests.{eqb-true, eqb-false, le-ltb}
+use Rattle.layout.specs.Layout.{valuesMost, setMarksAt, notesAt, rowWords, lineAt, firstInLineAt, stateWords}
 use Rattle.model.specs.Base.{put}
 use Rattle.model.specs.Vector.{Program}
-use Rattle.model.specs.Message.{Run}
+use Rattle.model.specs.Message.{Message, Run}
 use Rattle.model.specs.Undo.{sumAdded}
-use Rattle.model.specs.Service.{Slot, closed, opened, Transaction, World, withFields, withSlot, newTransaction, standing}
+use Rattle.model.specs.Service.{Slot, closed, opened, Transaction, Waiter, World, withFields, withSlot, newTransaction, standing, queued}
 use Rattle.model.specs.Machine.{service}
 use Rattle.laws.specs.Basics.{at-or, put-same, put-other}
 use Rattle.laws.specs.Bits.{bit, bit-zero}
 use Rattle.machine_words.specs.Row.{noteBy, noteAt, blank}
+use Rattle.machine_words.specs.Line.{countIn, firstInLine, withPlace}
 use Rattle.machine_words.specs.Calls.{tablesOf, rowOf, phaseOf, withRow}
-use Rattle.machine_words.specs.Rows.{with-same, with-other, with-tables, with-fit, fit-is}
-use Rattle.machine_refinement.specs.Rep.{Fits, NowRep, Clean, Holds, OpenRep, SlotRep, Rep}
+use Rattle.machine_words.specs.Rows.{row-length, with-same, with-other, with-tables, with-count, with-line, with-fit, place-row, place-tables, place-fit, fit-is}
+use Rattle.machine_refinement.specs.Rep.{Fits, NowRep, Clean, Holds, OpenRep, SlotRep, Waits, settled, RepAt, Rep}
+use Rattle.twophase.specs.Line.{Once}
 use Rattle.machine_refinement.specs.Locks.{blank-word, blank-holds}
+use Rattle.machine_refinement.specs.WaitRows.{withdrawn-phase, settled-ready, settled-waits}
 
 -- ---- phases
 
@@ -34,19 +40,44 @@ open-phase text tables p row t rep = go (t .running) (rep .now)
     go none now = omega arith
     go (some r) now = let two = now .0 in omega arith
 
+-- Nor is it 3.
+pub ready-phase : (text tables : List ℕ) (p : Program) (row : List ℕ) (t : Transaction (service p)) → OpenRep text tables p row t → phaseOf row ≢ 3
+ready-phase text tables p row t rep = go (t .running) (rep .now)
+  where
+    go : (x : Option Run) → NowRep text tables p row x → phaseOf row ≢ 3
+    go none now = omega arith
+    go (some r) now = let two = now .0 in omega arith
+
 -- A slot's phase is 0 exactly if it is closed in the world.
-module _ (text ws values : List ℕ) (p : Program) (w : World (service p)) (rep : Rep text ws values p w) (t : ℕ) (h : t < 8) where
+module _ (text ws values : List ℕ) (p : Program) (w : World (service p)) {n : ℕ} {all : List (Waiter (service p))} (rep : RepAt text ws values p w n all)
+    (t : ℕ) (h : t < 8) where
+  pub row-size : length (rowOf ws t) ≡ rowWords
+  row-size = row-length ws (fit-is text ws values (rep .fit) .long) t h
+
   pub phase-closed : phaseOf (rowOf ws t) ≡ 0 → w .slots t ≡ closed
-  phase-closed e = go (w .slots t) (rep .slots t h)
+  phase-closed e =
+      go (w .slots t)
+      (subst (λ (r : List ℕ). SlotRep text (tablesOf ws) p r (w .slots t)) (settled-ready (rowOf ws t) (λ x. omega arith)) (rep .slots t h))
     where
       go : (z : Slot (service p)) → SlotRep text (tablesOf ws) p (rowOf ws t) z → z ≡ closed
       go closed r = refl
       go (opened x) r = absurd (open-phase text (tablesOf ws) p (rowOf ws t) x r e)
 
   pub closed-phase : w .slots t ≡ closed → phaseOf (rowOf ws t) ≡ 0
-  closed-phase e =
-      let blanked : rowOf ws t ≡ blank = subst (SlotRep text (tablesOf ws) p (rowOf ws t)) e (rep .slots t h) in
-      ap phaseOf blanked ∙ blank-word 0
+  closed-phase e = go (eqb (phaseOf (rowOf ws t)) 3) refl
+    where
+      blanked : settled (rowOf ws t) ≡ blank
+      blanked = subst (SlotRep text (tablesOf ws) p (settled (rowOf ws t))) e (rep .slots t h)
+
+      go : (b : Bool) → eqb (phaseOf (rowOf ws t)) 3 ≡ b → phaseOf (rowOf ws t) ≡ 0
+      go true f =
+          let three = eqb-true (phaseOf (rowOf ws t)) 3 f in
+          absurd (omega (arith, withdrawn-phase (rowOf ws t) row-size, ap phaseOf (sym (settled-waits (rowOf ws t) three) ∙ blanked), blank-word 0))
+      go false f = ap phaseOf (sym (settled-ready (rowOf ws t) (eqb-false (phaseOf (rowOf ws t)) 3 f)) ∙ blanked) ∙ blank-word 0
+
+  -- A slot of another phase than 3 has no send in line.
+  pub not-waiting : phaseOf (rowOf ws t) ≢ 3 → (v : Waiter (service p)) → List·Memᴰ v all → v .slot ≢ t
+  not-waiting ne v i e = ne (ap (λ (u : ℕ). phaseOf (rowOf ws u)) (sym e) ∙ rep .waits v i .phase)
 
 -- ---- the transaction that a send belongs to
 
@@ -90,24 +121,124 @@ slot-stands text tables p row (opened t) o = record { undo = o .undo; clean = o 
 
 -- ---- a slot altered
 
--- A call that writes one slot's row and keeps the number of values: the words represent the world with that slot altered.
-pub moved : (text ws values : List ℕ) (p : Program) (w : World (service p)) → Rep text ws values p (withFields (service p) w values)
-    → (s : ℕ) → s < 8 → (row values′ : List ℕ) → length row ≡ rowWords → length values′ ≡ length values → (z : Slot (service p)) → SlotRep text (tablesOf ws) p row z
-    → Rep text (withRow ws s row) values′ p (withSlot (service p) (withFields (service p) w values′) s z)
-moved text ws values p w rep s h row values′ size count z slot =
-    let long = fit-is text ws values (rep .fit) .long in
-    let tables = with-tables ws long s h row size in
-    record {
-      fit = with-fit ws long s h row size text values values′ count ∙ rep .fit;
-      fits = subst (λ (t : List ℕ). Fits text t p) (sym tables) (rep .fits);
-      fields = refl;
-      slots = at-or (λ (t : ℕ). t < 8 → SlotRep text (tablesOf (withRow ws s row)) p (rowOf (withRow ws s row) t) (put (w .slots) s z t)) s
-          (λ l. in-place tables (sym (with-same ws long s h row size)) (sym (put-same (w .slots) s z)) slot)
-          (λ t ne l. in-place tables (sym (with-other ws long s h row size t l ne)) (sym (put-other (w .slots) s z t ne)) (rep .slots t l));
-    }
-  where
-    in-place : {r r′ : List ℕ} {x x′ : Slot (service p)} → tablesOf (withRow ws s row) ≡ tablesOf ws → r ≡ r′ → x ≡ x′ → SlotRep text (tablesOf ws) p r x
-        → SlotRep text (tablesOf (withRow ws s row)) p r′ x′
-    in-place {r} {r′} {x} {x′} a b c q =
-        subst (λ (t : List ℕ). SlotRep text t p r′ x′) (sym a)
-        (subst (λ (y : Slot (service p)). SlotRep text (tablesOf ws) p r′ y) c (subst (λ (y : List ℕ). SlotRep text (tablesOf ws) p y x) b q))
+-- A call that writes one slot's row and keeps the number of values: the words represent the world with that slot altered. Those who
+-- wait afterwards waited before, but for the slot's own send.
+module _ (text ws values : List ℕ) (p : Program) (w : World (service p)) {n : ℕ} {all : List (Waiter (service p))}
+    (rep : RepAt text ws values p (withFields (service p) w values) n all)
+    (s : ℕ) (h : s < 8) (row values′ : List ℕ) (size : length row ≡ rowWords) (count : length values′ ≡ length values) (z : Slot (service p)) where
+  long : stateWords ≤ length ws
+  long = fit-is text ws values (rep .fit) .long
+
+  tables : tablesOf (withRow ws s row) ≡ tablesOf ws
+  tables = with-tables ws long s h row size
+
+  in-place : {r r′ : List ℕ} {x x′ : Slot (service p)} → r ≡ r′ → x ≡ x′ → SlotRep text (tablesOf ws) p r x → SlotRep text (tablesOf (withRow ws s row)) p r′ x′
+  in-place {r} {r′} {x} {x′} b c q =
+      subst (λ (t : List ℕ). SlotRep text t p r′ x′) (sym tables)
+      (subst (λ (y : Slot (service p)). SlotRep text (tablesOf ws) p r′ y) c (subst (λ (y : List ℕ). SlotRep text (tablesOf ws) p y x) b q))
+
+  pub altered : SlotRep text (tablesOf ws) p (settled row) z → (all′ : List (Waiter (service p)))
+      → ((v : Waiter (service p)) → List·Memᴰ v all′ → ((v .slot ≡ s) × Waits text (tablesOf ws) p row (v .message)) ⊎ ((v .slot ≢ s) × List·Memᴰ v all))
+      → ((v : Waiter (service p)) → List·Memᴰ v all → v .slot ≢ s → List·Memᴰ v all′)
+      → (phaseOf row ≡ 3 → (v : Waiter (service p)) × List·Memᴰ v all′ × (v .slot ≡ s)) → Once (service p) all′
+      → RepAt text (withRow ws s row) values′ p (withSlot (service p) (withFields (service p) w values′) s z) n all′
+  altered slot all′ from keeps own once =
+      record {
+        fit = with-fit ws long s h row size text values values′ count ∙ rep .fit;
+        fits = subst (λ (t : List ℕ). Fits text t p) (sym tables) (rep .fits);
+        fields = refl;
+        slots = at-or (λ (t : ℕ). t < 8 → SlotRep text (tablesOf (withRow ws s row)) p (settled (rowOf (withRow ws s row) t)) (put (w .slots) s z t)) s
+            (λ l. in-place (ap settled (sym same)) (sym (put-same (w .slots) s z)) slot)
+            (λ t ne l. in-place (ap settled (sym (other t l ne))) (sym (put-other (w .slots) s z t ne)) (rep .slots t l));
+        places = with-line ws long s h row size n ∙ rep .places;
+        below = λ v i. ⊎-elim (λ q. omega (arith, q .0, h)) (λ q. rep .below v (q .1)) (from v i);
+        waits = λ v i. ⊎-elim (λ q. there (v .slot) (v .message) (q .0) (q .1)) (λ q. else v (q .0) (q .1)) (from v i);
+        waiting = λ t l e. go t l e (ℕ-discrete t s);
+        once = once;
+      }
+    where
+      same : rowOf (withRow ws s row) s ≡ row
+      same = with-same ws long s h row size
+
+      other : (t : ℕ) → t < 8 → t ≢ s → rowOf (withRow ws s row) t ≡ rowOf ws t
+      other t l ne = with-other ws long s h row size t l ne
+
+      there : (t : ℕ) (m : Message) → t ≡ s → Waits text (tablesOf ws) p row m → Waits text (tablesOf (withRow ws s row)) p (rowOf (withRow ws s row) t) m
+      there t m e q =
+          subst (λ (x : List ℕ). Waits text x p (rowOf (withRow ws s row) t) m) (sym tables)
+          (subst (λ (r : List ℕ). Waits text (tablesOf ws) p r m) (sym (ap (rowOf (withRow ws s row)) e ∙ same)) q)
+
+      else : (v : Waiter (service p)) → v .slot ≢ s → List·Memᴰ v all → Waits text (tablesOf (withRow ws s row)) p (rowOf (withRow ws s row) (v .slot)) (v .message)
+      else v ne i =
+          subst (λ (x : List ℕ). Waits text x p (rowOf (withRow ws s row) (v .slot)) (v .message)) (sym tables)
+          (subst (λ (r : List ℕ). Waits text (tablesOf ws) p r (v .message)) (sym (other (v .slot) (rep .below v i) ne)) (rep .waits v i))
+
+      go : (t : ℕ) → t < 8 → phaseOf (rowOf (withRow ws s row) t) ≡ 3 → Dec (t ≡ s) → (v : Waiter (service p)) × List·Memᴰ v all′ × (v .slot ≡ t)
+      go t l e (yes q) =
+          let o = own (ap phaseOf (sym (ap (rowOf (withRow ws s row)) q ∙ same)) ∙ e) in
+          (o .0, o .1, o .2 ∙ sym q)
+      go t l e (no ne) =
+          let o = rep .waiting t l (ap phaseOf (sym (other t l ne)) ∙ e) in
+          (o .0, keeps (o .0) (o .1) (λ x. ne (sym (o .2) ∙ x)), o .2)
+
+  -- The slot did not wait, and does not wait then.
+  pub moved : phaseOf (rowOf ws s) ≢ 3 → phaseOf row ≢ 3 → SlotRep text (tablesOf ws) p row z
+      → RepAt text (withRow ws s row) values′ p (withSlot (service p) (withFields (service p) w values′) s z) n all
+  moved was is slot =
+      altered (subst (λ (r : List ℕ). SlotRep text (tablesOf ws) p r z) (sym (settled-ready row is)) slot) all
+      (λ v i. inr (not-waiting text ws values p (withFields (service p) w values) rep s h was v i, i)) (λ v i ne. i) (λ e. absurd (is e)) (rep .once)
+
+-- So for the whole line.
+pub moved-rep : (text ws values : List ℕ) (p : Program) (w : World (service p)) → Rep text ws values p (withFields (service p) w values) → (s : ℕ) → s < 8
+    → (row values′ : List ℕ) → length row ≡ rowWords → length values′ ≡ length values → (z : Slot (service p)) → phaseOf (rowOf ws s) ≢ 3 → phaseOf row ≢ 3
+    → SlotRep text (tablesOf ws) p row z → Rep text (withRow ws s row) values′ p (withSlot (service p) (withFields (service p) w values′) s z)
+moved-rep text ws values p w rep s h row values′ size count z was is slot =
+    subst (λ (n : ℕ). RepAt text (withRow ws s row) values′ p (withSlot (service p) (withFields (service p) w values′) s z) n (w .line))
+    (sym (with-count ws (fit-is text ws values (rep .fit) .long) s h row size)) (moved text ws values p w rep s h row values′ size count z was is slot)
+
+-- ---- the line altered
+
+-- A word of the line is written, and the world has another line.
+module _ (text ws values : List ℕ) (p : Program) (w : World (service p)) {n : ℕ} {all : List (Waiter (service p))} (rep : RepAt text ws values p w n all)
+    (i v : ℕ) (h : lineAt ≤ i) where
+  tables′ : tablesOf (set ws i v) ≡ tablesOf ws
+  tables′ = place-tables ws i v h
+
+  rewritten : (line : List (Waiter (service p))) (k : ℕ) → firstInLine (set ws i v) k ≡ map (λ x. x .slot) line
+      → RepAt text (set ws i v) values p (record { fields = w .fields; slots = w .slots; line = line }) k all
+  rewritten line k places =
+      record {
+        fit = place-fit ws i v h text values ∙ rep .fit;
+        fits = subst (λ (t : List ℕ). Fits text t p) (sym tables′) (rep .fits);
+        fields = rep .fields;
+        slots = λ t l.
+            subst (λ (x : List ℕ). SlotRep text x p (settled (rowOf (set ws i v) t)) (w .slots t)) (sym tables′)
+            (subst (λ (r : List ℕ). SlotRep text (tablesOf ws) p (settled r) (w .slots t)) (sym (place-row ws i v h t l)) (rep .slots t l));
+        places = places;
+        below = rep .below;
+        waits = λ u j.
+            subst (λ (x : List ℕ). Waits text x p (rowOf (set ws i v) (u .slot)) (u .message)) (sym tables′)
+            (subst (λ (r : List ℕ). Waits text (tablesOf ws) p r (u .message)) (sym (place-row ws i v h (u .slot) (rep .below u j))) (rep .waits u j));
+        waiting = λ t l e. rep .waiting t l (ap phaseOf (sym (place-row ws i v h t l)) ∙ e);
+        once = rep .once;
+      }
+
+-- A waiter is put at the place after the line.
+pub placed : (text ws values : List ℕ) (p : Program) (w : World (service p)) {n : ℕ} {all : List (Waiter (service p))} → RepAt text ws values p w n all
+    → n < 8 → (v : Waiter (service p)) → RepAt text (withPlace ws n (v .slot)) values p (queued (service p) w v) (suc n) all
+placed text ws values p w {n} rep few v =
+    rewritten text ws values p w rep (firstInLineAt + n) (v .slot) (omega arith) (w .line ++ (v ∷ [])) (suc n)
+    (ap (take (suc n)) (drop-set-add firstInLineAt ws n (v .slot))
+    ∙ take-suc-set (drop firstInLineAt ws) n (v .slot) (omega (arith, length-drop firstInLineAt ws, fit-is text ws values (rep .fit) .long))
+    ∙ ap (λ (l : List ℕ). l ++ (v .slot ∷ [])) (rep .places) ∙ sym (map-append (λ x. x .slot) (w .line) (v ∷ [])))
+
+-- The number of those who wait is written.
+pub counted : (text ws values : List ℕ) (p : Program) (w : World (service p)) {n : ℕ} {all : List (Waiter (service p))} → RepAt text ws values p w n all
+    → n ≤ 8 → RepAt text (set ws lineAt n) values p w (countIn (set ws lineAt n)) all
+unfolding countIn
+counted text ws values p w {n} {all} rep few =
+    let e : getD (set ws lineAt n) lineAt 0 ≡ n = getD-set-same ws lineAt n 0 (omega (arith, fit-is text ws values (rep .fit) .long)) in
+    let is : cond (ltb 8 (getD (set ws lineAt n) lineAt 0)) 8 (getD (set ws lineAt n) lineAt 0) ≡ n = rw (e, le-ltb 8 n few) in
+    subst (λ (k : ℕ). RepAt text (set ws lineAt n) values p w k all) (sym is)
+    (rewritten text ws values p w rep lineAt n (omega arith) (w .line) n
+    (ap (take n) (drop-set-lt firstInLineAt ws lineAt n (omega arith)) ∙ rep .places))

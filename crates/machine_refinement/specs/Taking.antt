@@ -9,26 +9,26 @@ use lib.ListN.{length, getD, length-set}
 use lib.Bits.{bitOr}
 use lib.Dec.{eqb, ltb}
 use borrow.Author.Tests.{ltb-true, ltb-false, eqb-false}
-use Rattle.layout.specs.Layout.{lockMarksAt, objectLocksAt, classLocksAt, wholeLocksAt, marksAt, notesAt, rowWords}
+use Rattle.layout.specs.Layout.{lockMarksAt, objectLocksAt, classLocksAt, wholeLocksAt, marksAt, notesAt}
 use Rattle.model.specs.Base.{fold, any, keep, upto}
 use Rattle.model.specs.Word.{Name}
 use Rattle.model.specs.Library.{classAt, memberPlace}
 use Rattle.model.specs.Vector.{Program}
 use Rattle.model.specs.Message.{Target}
 use Rattle.model.specs.Message as Model
-use Rattle.model.specs.Lock.{Lock, onObject, onClass, domainOf, locksFor}
+use Rattle.model.specs.Lock.{Lock, onObject, onClass, domainOf, locksFor, sameLock}
 use Rattle.theory.specs.Accepted.{or-false}
 use Rattle.catalog.specs.View.{classCount, objectCount, memberCount}
 use Rattle.laws.specs.Bits.{bit, bit-or, bit-one}
 use Rattle.machine_words.specs.Row.{lockMarked, withBits}
 use Rattle.machine_words.specs.Request.{Wanted, placeIn, inDomain, concerns, withLock, domainLock, locked}
 use Rattle.machine_words.specs.Calls.{wanted}
-use Rattle.machine_refinement.specs.Rep.{Fits, lockWord, lockBit, Holdable, sameLock, Holds, Clean}
+use Rattle.machine_refinement.specs.Rep.{Fits, lockWord, lockBit, Holdable, Holds, Clean, methodOf, Aims, one, each, whole}
 use Rattle.machine_refinement.specs.Tables.{class-total, method-total, class-is}
 use Rattle.machine_refinement.specs.Stores.{else-word, new-word}
 use Rattle.machine_refinement.specs.Locks.{known-word, taken, taken-holds, useless-holds, holds-same}
 use Rattle.machine_refinement.specs.Clashes.{below-count}
-use Rattle.machine_refinement.specs.RowTest.{Aims, one, each, whole, methodOf, class-known, object-known, method-place, place-there, domain-there}
+use Rattle.machine_refinement.specs.RowTest.{class-known, object-known, method-place, place-there, domain-there}
 
 -- ---- the order of locks
 
@@ -47,26 +47,26 @@ any-middle q (x ∷ xs) y ys = ap (λ (b : Bool). q x || b) (any-middle q xs y y
 -- ---- what a row keeps
 
 pub record Took (p : Program) (row row′ : List ℕ) (held : List Lock) : Type 0 where
-  pub long : length row′ ≡ rowWords
+  pub long : length row′ ≡ length row
   pub kept : (i : ℕ) → i ≢ 10 → (objectLocksAt ≤ i → i < marksAt → ⊥) → getD row′ i 0 ≡ getD row i 0
   pub clean : Clean row → Clean row′
   pub holds : Holds p row′ held
 
 took-more : (p : Program) (row row₁ row₂ : List ℕ) (held held₂ : List Lock) → Took p row row₁ held → Took p row₁ row₂ held₂ → Took p row row₂ held₂
 took-more p row row₁ row₂ held held₂ a b =
-    record { long = b .long; kept = λ i ne out. b .kept i ne out ∙ a .kept i ne out; clean = λ c. b .clean (a .clean c); holds = b .holds }
+    record { long = b .long ∙ a .long; kept = λ i ne out. b .kept i ne out ∙ a .kept i ne out; clean = λ c. b .clean (a .clean c); holds = b .holds }
 
 -- ---- a word with locks, and its mark
 
-module _ (row : List ℕ) (size : length row ≡ rowWords) (w bits : ℕ) (from : objectLocksAt ≤ w) (end : w < marksAt) where
+module _ (row : List ℕ) (size : marksAt ≤ length row) (w bits : ℕ) (from : objectLocksAt ≤ w) (end : w < marksAt) where
   abbrev word : ℕ
   word = bitOr (getD row w 0) bits
 
   abbrev mark : ℕ
   mark = bitOr (getD row lockMarksAt 0) (2 ^ (w / 8 % 32))
 
-  marked-long : length (withBits row w bits) ≡ rowWords
-  marked-long = length-set (lockMarked row w) w word ∙ length-set row lockMarksAt mark ∙ size
+  marked-long : length (withBits row w bits) ≡ length row
+  marked-long = length-set (lockMarked row w) w word ∙ length-set row lockMarksAt mark
 
   marked-other : (i : ℕ) → i ≢ 10 → i ≢ w → getD (withBits row w bits) i 0 ≡ getD row i 0
   marked-other i n m = else-word (lockMarked row w) w word i m ∙ else-word row lockMarksAt mark i n
@@ -94,7 +94,7 @@ module _ (row : List ℕ) (size : length row ≡ rowWords) (w bits : ℕ) (from 
       }
 
 module _ (text tables : List ℕ) (p : Program) (fits : Fits text tables p) where
-  took-one : (row : List ℕ) → length row ≡ rowWords → (y : Lock) → Holdable p y → (held : List Lock) → Holds p row held → Took p row (taken p row y) (y ∷ held)
+  took-one : (row : List ℕ) → marksAt ≤ length row → (y : Lock) → Holdable p y → (held : List Lock) → Holds p row held → Took p row (taken p row y) (y ∷ held)
   took-one row size y can held holds =
       let w = known-word text tables p fits y (can .0) in
       let bits = 2 ^ lockBit p y in
@@ -121,7 +121,7 @@ module _ (text tables : List ℕ) (p : Program) (fits : Fits text tables p) wher
     m-place = method-place text tables p fits c k a h has
 
     -- The locks of the method in its own class.
-    class-can : (d : ℕ) (w : Bool) → d ≡ c → Holdable p (onClass d m w) × (lockBit p (onClass d m w) ≡ k)
+    pub class-can : (d : ℕ) (w : Bool) → d ≡ c → Holdable p (onClass d m w) × (lockBit p (onClass d m w) ≡ k)
     unfolding lockBit
     class-can d w e =
         let b : memberPlace (classAt (p .library) d .methods) m ≡ k = ap (λ (i : ℕ). memberPlace (classAt (p .library) i .methods) m) e ∙ m-place in
@@ -129,7 +129,7 @@ module _ (text tables : List ℕ) (p : Program) (fits : Fits text tables p) wher
         ap (λ (i : ℕ). length (classAt (p .library) i .methods)) e ∙ method-total text tables p fits c h in
         ((class-known text tables p fits d m w (omega arith), omega arith), b)
 
-    object-can : (o : ℕ) → o < objectCount tables → Model.classOf p o ≡ c → Holdable p (onObject o m) × (lockBit p (onObject o m) ≡ k)
+    pub object-can : (o : ℕ) → o < objectCount tables → Model.classOf p o ≡ c → Holdable p (onObject o m) × (lockBit p (onObject o m) ≡ k)
     unfolding lockBit
     object-can o l e = ((object-known text tables p fits o m l, class-can (Model.classOf p o) true e .0 .1), class-can (Model.classOf p o) true e .1)
 
@@ -138,9 +138,9 @@ module _ (text tables : List ℕ) (p : Program) (fits : Fits text tables p) wher
     abbrev lock : ℕ → Lock
     lock d = onClass d m true
 
-    module _ (row : List ℕ) (size : length row ≡ rowWords) (held : List Lock) (holds : Holds p row held) where
+    module _ (row : List ℕ) (size : marksAt ≤ length row) (held : List Lock) (holds : Holds p row held) where
       same-row : Took p row row held
-      same-row = record { long = size; kept = λ i ne out. refl; clean = λ c. c; holds = holds }
+      same-row = record { long = refl; kept = λ i ne out. refl; clean = λ c. c; holds = holds }
 
       took-class : (d : ℕ) → d < classCount tables → (b : Bool) → Model.inDomain p c d ≡ b
           → Took p row (domainLock text tables (q 2 c) row d) (map lock (cond b (d ∷ []) []) ++ held)
@@ -167,7 +167,7 @@ module _ (text tables : List ℕ) (p : Program) (fits : Fits text tables p) wher
               (took-one row size (lock d) (class-known text tables p fits d m true l, omega (arith, ltb-true there count f, there-is, total)) held holds)
           go true false f =
               record {
-                long = size;
+                long = refl;
                 kept = λ i ne out. refl;
                 clean = λ c. c;
                 holds = useless-holds text tables p fits row (lock d) held
@@ -175,7 +175,7 @@ module _ (text tables : List ℕ) (p : Program) (fits : Fits text tables p) wher
               }
           go false w f = same-row
 
-    took-domain : (ds : List ℕ) → ((d : ℕ) → List·Memᴰ d ds → d < classCount tables) → (row : List ℕ) → length row ≡ rowWords → (held : List Lock) → Holds p row held
+    took-domain : (ds : List ℕ) → ((d : ℕ) → List·Memᴰ d ds → d < classCount tables) → (row : List ℕ) → marksAt ≤ length row → (held : List Lock) → Holds p row held
         → Took p row (fold (domainLock text tables (q 2 c)) row ds) (map lock (keep (Model.inDomain p c) ds) ++ held)
     unfolding fold keep
     took-domain [] inside row size held holds = same-row row size held holds
@@ -190,21 +190,21 @@ module _ (text tables : List ℕ) (p : Program) (fits : Fits text tables p) wher
         rest = map lock (keep (Model.inDomain p c) ds)
 
         go : (b : Bool) → Took p row row′ (map lock (cond b (d ∷ []) []) ++ held)
-            → (length row′ ≡ rowWords → (held : List Lock) → Holds p row′ held → Took p row′ (fold (domainLock text tables (q 2 c)) row′ ds) (rest ++ held))
+            → (marksAt ≤ length row′ → (held : List Lock) → Holds p row′ held → Took p row′ (fold (domainLock text tables (q 2 c)) row′ ds) (rest ++ held))
             → Took p row (fold (domainLock text tables (q 2 c)) row′ ds)
             (map lock (cond b (d ∷ keep (Model.inDomain p c) ds) (keep (Model.inDomain p c) ds)) ++ held)
         go true t later =
             let last = fold (domainLock text tables (q 2 c)) row′ ds in
             took-same row last (rest ++ (lock d ∷ held)) (lock d ∷ (rest ++ held)) (λ x. any-middle (sameLock x) rest (lock d) held)
-            (took-more p row row′ last (lock d ∷ held) (rest ++ (lock d ∷ held)) t (later (t .long) (lock d ∷ held) (t .holds)))
+            (took-more p row row′ last (lock d ∷ held) (rest ++ (lock d ∷ held)) t (later (omega (arith, t .long)) (lock d ∷ held) (t .holds)))
         go false t later =
             let last = fold (domainLock text tables (q 2 c)) row′ ds in
-            took-more p row row′ last held (rest ++ held) t (later (t .long) held (t .holds))
+            took-more p row row′ last held (rest ++ held) t (later (omega (arith, t .long)) held (t .holds))
 
     -- ---- every target
 
     -- The row with the send's locks holds the model's list.
-    pub took-locks : (row : List ℕ) → length row ≡ rowWords → (held : List Lock) → Holds p row held → (kind n : ℕ) (t : Target) → Aims tables c kind n t
+    pub took-locks : (row : List ℕ) → marksAt ≤ length row → (held : List Lock) → Holds p row held → (kind n : ℕ) (t : Target) → Aims tables c kind n t
         → Took p row (locked text tables (q kind n) row) (locksFor p t m ++ held)
     unfolding locked any domainOf
     took-locks row size held holds kind n t (one o l e) =
@@ -215,7 +215,7 @@ module _ (text tables : List ℕ) (p : Program) (fits : Fits text tables p) wher
         let can-y = class-can (Model.classOf p o) false on in
         let first = took-one row size x (can-x .0) held holds in
         let row₁ = taken p row x in
-        let second = took-one row₁ (first .long) y (can-y .0) (x ∷ held) (first .holds) in
+        let second = took-one row₁ (omega (arith, first .long)) y (can-y .0) (x ∷ held) (first .holds) in
         let row₂ = taken p row₁ y in
         let is : row₂ ≡ withLock (withLock row (objectLocksAt + o) k) (classLocksAt + c) k =
         ap₂ (λ (i j : ℕ). withLock (withLock row (objectLocksAt + o) i) (classLocksAt + j) (lockBit p y)) (can-x .1) on

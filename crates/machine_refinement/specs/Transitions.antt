@@ -10,23 +10,26 @@ use Rattle.model.specs.Vector.{Program}
 use Rattle.model.specs.Message.{changed, Effect, idle, store, Run, Outcome, goes, ends, stops, turn}
 use Rattle.model.specs.Message as Model
 use Rattle.model.specs.Undo.{Undo, noted, putBack}
-use Rattle.model.specs.Service.{Answer, done, stopped, closed, opened, Transaction, World, withFields, withSlot, advanced, undone, after, stepped}
+use Rattle.model.specs.Service.{Answer, done, stopped, opened, Transaction, World, withFields, withSlot, advanced, ended, undone, after, stepped}
 use Rattle.model.specs.Machine.{service}
 use Rattle.laws.specs.PutBack.{back-length}
 use Rattle.theory.specs.NamedRuns.{NamedRun, turn-named}
 use Rattle.machine_words.specs.Row.{Left, noteAt, freed, carried}
 use Rattle.machine_words.specs.Turn.{decided}
-use Rattle.machine_words.specs.Calls.{After, tablesOf, rowOf, phaseOf, withRow, laid, undoneAt}
+use Rattle.machine_words.specs.Line.{withdrawn}
+use Rattle.machine_words.specs.Calls.{After, tablesOf, rowOf, phaseOf, withRow, wokenBy, laid, endedAt, undoneAt}
 use Rattle.machine_refinement.specs.Rep.{runOf, NowRep, OpenRep, Rep}
 use Rattle.machine_refinement.specs.Tables.{resolving}
 use Rattle.machine_refinement.specs.Runs.{note-same}
 use Rattle.machine_refinement.specs.Stores.{else-word, new-word}
-use Rattle.machine_refinement.specs.Freeing.{clean-alike, freed-long, freed-blank}
+use Rattle.machine_refinement.specs.Freeing.{clean-alike, freed-blank}
 use Rattle.machine_refinement.specs.Going.{Matches}
 use Rattle.machine_refinement.specs.Step.{step-matches}
 use Rattle.machine_refinement.specs.Locks.{holds-alike}
-use Rattle.machine_words.specs.Rows.{row-length, Fit, fit-is}
-use Rattle.machine_refinement.specs.State.{moved}
+use Rattle.machine_words.specs.Rows.{Fit, fit-is}
+use Rattle.machine_refinement.specs.WaitRows.{withdrawn-long}
+use Rattle.machine_refinement.specs.State.{row-size, ready-phase, moved-rep}
+use Rattle.machine_refinement.specs.Waking.{ended-rep}
 
 -- What a call leaves follows the model: its answer is the model's, and the words represent the world after.
 abbrev pub Follows : List ℕ → (p : Program) → After → Answer × World (service p) → Type 0
@@ -47,56 +50,65 @@ module _ (text ws values : List ℕ) (p : Program) (w₀ : World (service p)) (r
   fit : Fit ws values
   fit = fit-is text ws values (rep .fit)
 
-  pub row-size : length row ≡ rowWords
-  row-size = row-length ws (fit .long) s h
+  long : length row ≡ rowWords
+  long = row-size text ws values p w rep s h
 
   -- A row that differs in its phase alone.
   phased : (v i : ℕ) → (i ≡ 0 → ⊥) → getD (set row phaseAt v) i 0 ≡ getD row i 0
   phased v i ne = else-word row phaseAt v i ne
 
-  module _ (t : Transaction (service p)) (open′ : OpenRep text (tablesOf ws) p row t) where
-    -- The slot is closed.
-    frees : (values′ : List ℕ) → length values′ ≡ length values
-        → Rep text (withRow ws s (freed row)) values′ p (withSlot (service p) (withFields (service p) w₀ values′) s closed)
-    frees values′ count =
-        moved text ws values p w₀ rep s h (freed row) values′ (freed-long row row-size) count closed (freed-blank row row-size (open′ .clean))
+  -- ---- the end of a transaction: its row, without its waiting send, is freed
+
+  module _ (t : Transaction (service p)) (r : List ℕ) (size : length r ≡ rowWords) (is-open : OpenRep text (tablesOf ws) p r t) where
+    frees : (values′ : List ℕ) → length values′ ≡ length values → Rep text (endedAt text ws s r) values′ p (ended (service p) w s values′)
+    frees values′ count = ended-rep text ws values p w₀ rep s h (freed r) values′ (freed-blank r size (is-open .clean)) count
 
     -- "Commit frees the slot and leaves the fields."
-    pub commits : Follows text p (record { answered = done; words = withRow ws s (freed row); values = values }) (done, withSlot (service p) w s closed)
-    commits = (refl, frees values refl)
+    ends-here : Follows text p (record { answered = done; words = endedAt text ws s r; values = values }) (done, ended (service p) w s values)
+    ends-here = (refl, frees values refl)
+
+    -- "Abort puts back .. and frees the slot."
+    undoes : (a : Answer) → Follows text p (record { answered = a; words = endedAt text ws s r; values = putBack (noteAt r) values }) (a, undone (service p) w s t)
+    undoes a = (
+      refl,
+      subst (λ (u : Undo). Rep text (endedAt text ws s r) (putBack (noteAt r) values) p (ended (service p) w s (putBack u values))) (fun-ext (is-open .undo))
+          (frees (putBack (noteAt r) values) (back-length (noteAt r) values)),
+    )
+
+  -- "Abort of a waiting slot withdraws it."
+  pub withdraws : (t : Transaction (service p)) → OpenRep text (tablesOf ws) p (withdrawn row) t
+      → Follows text p (undoneAt text ws values s (withdrawn row)) (done, undone (service p) w s t)
+  withdraws t o = undoes t (withdrawn row) (withdrawn-long row long) o done
+
+  module _ (t : Transaction (service p)) (open′ : OpenRep text (tablesOf ws) p row t) where
+    pub commits : Follows text p (record { answered = done; words = endedAt text ws s row; values = values }) (done, ended (service p) w s values)
+    commits = ends-here t row long open′
+
+    pub aborts : Follows text p (undoneAt text ws values s row) (done, undone (service p) w s t)
+    aborts = undoes t row long open′ done
 
     notes-are : noteAt row ≡ t .undo
     notes-are = fun-ext (open′ .undo)
 
-    -- "Abort puts back .. and frees the slot."
-    undoes : (a : Answer)
-        → Follows text p (record { answered = a; words = withRow ws s (freed row); values = putBack (noteAt row) values }) (a, undone (service p) w s t)
-    undoes a = (
-      refl,
-      subst (λ (u : Undo). Rep text (withRow ws s (freed row)) (putBack (noteAt row) values) p
-          (withSlot (service p) (withFields (service p) w₀ (putBack u values)) s closed)) notes-are (frees (putBack (noteAt row) values) (back-length (noteAt row) values)),
-    )
-
-    pub aborts : Follows text p (undoneAt ws values s) (done, undone (service p) w s t)
-    aborts = undoes done
-
     -- ---- a step
 
     -- The slot after a step's effect.
-    steps-to : (row′ values′ : List ℕ) (e : Effect) (r : Option Run) → length row′ ≡ rowWords → values′ ≡ Model.act e values
-        → OpenRep text (tablesOf ws) p row′ (advanced (service p) t e values r)
-        → Rep text (withRow ws s row′) values′ p (after (service p) w s t e r)
-    steps-to row′ values′ e r size f o =
-        subst (λ (fs : List ℕ). Rep text (withRow ws s row′) values′ p
+    steps-to : (row′ values′ : List ℕ) (e : Effect) (r : Option Run) (a : Answer) → ((ws : List ℕ) → wokenBy a text ws ≡ ws) → length row′ ≡ rowWords
+        → values′ ≡ Model.act e values → OpenRep text (tablesOf ws) p row′ (advanced (service p) t e values r)
+        → Rep text (wokenBy a text (withRow ws s row′)) values′ p (after (service p) w s t e r)
+    steps-to row′ values′ e r a same size f o =
+        subst (λ (l : List ℕ). Rep text l values′ p (after (service p) w s t e r)) (sym (same (withRow ws s row′)))
+        (subst (λ (fs : List ℕ). Rep text (withRow ws s row′) values′ p
         (withSlot (service p) (withFields (service p) w₀ fs) s (opened (advanced (service p) t e values r)))) f
-        (moved text ws values p w₀ rep s h row′ values′ size (ap length f ∙ act-length e values)
-        (opened (advanced (service p) t e values r)) o)
+        (moved-rep text ws values p w₀ rep s h row′ values′ size (ap length f ∙ act-length e values)
+        (opened (advanced (service p) t e values r)) (ready-phase text (tablesOf ws) p row t open′)
+        (ready-phase text (tablesOf ws) p row′ (advanced (service p) t e values r) o) o))
 
     outcome : phaseOf row ≡ 2 → (x : Left) (y : Outcome) → ((r : Run) (e : Effect) → y ≡ goes r e → NamedRun p r) → Matches text (tablesOf ws) p row values x y
-        → Follows text p (laid ws s x) (stepped (service p) w s t y)
+        → Follows text p (laid text ws s x) (stepped (service p) w s t y)
     outcome two x (goes r e) named m = (
       m .answered,
-      steps-to (x .row) (x .values) e (some r) (m .size) (m .fields)
+      steps-to (x .row) (x .values) e (some r) (x .answered) (λ l. ap (λ (a : Answer). wokenBy a text l) (m .answered)) (m .size) (m .fields)
           (record {
             clean = m .clean (open′ .clean);
             undo = λ k. m .notes k ∙ ap (λ (u : Undo). noted u e values k) notes-are;
@@ -108,27 +120,28 @@ module _ (text ws values : List ℕ) (p : Program) (w₀ : World (service p)) (r
         let e′ = m .effect in
         let keep : (i : ℕ) → (i ≡ 0 → ⊥) → getD (x .row) i 0 ≡ getD row i 0 = λ i ne. ap (λ (r : List ℕ). getD r i 0) (m .left) ∙ phased 1 i ne in (
           m .answered,
-          steps-to (x .row) (x .values) e none (ap length (m .left) ∙ length-set row phaseAt 1 ∙ row-size) (m .fields ∙ ap (λ (d : Effect). Model.act d values) (sym e′))
+          steps-to (x .row) (x .values) e none (x .answered) (λ l. ap (λ (a : Answer). wokenBy a text l) (m .answered))
+              (ap length (m .left) ∙ length-set row phaseAt 1 ∙ long) (m .fields ∙ ap (λ (d : Effect). Model.act d values) (sym e′))
               (record {
                 undo = λ k. note-same row (x .row) (λ i g l. keep i (omega arith)) k ∙ open′ .undo k ∙ ap (λ (d : Effect). noted (t .undo) d values k) (sym e′);
                 clean = clean-alike row (x .row) (λ i g l. keep i (omega arith)) (λ i g l. keep i (omega arith)) (λ d. omega (arith, keep 1 (omega arith)))
                     (open′ .clean);
                 locks = holds-alike text (tablesOf ws) p (rep .fits) row (x .row) (t .locks) (λ i g l. keep i (omega arith)) (open′ .locks);
-                now = ap (λ (r : List ℕ). getD r phaseAt 0) (m .left) ∙ new-word row phaseAt 1 (omega (arith, row-size));
+                now = ap (λ (r : List ℕ). getD r phaseAt 0) (m .left) ∙ new-word row phaseAt 1 (omega (arith, long));
               }),
         )
     outcome two x stops named m =
-        subst (λ (z : Left). Follows text p (laid ws s z) (stopped, undone (service p) w s t))
+        subst (λ (z : Left). Follows text p (laid text ws s z) (stopped, undone (service p) w s t))
         (sym (λ i. record { answered = m .answered i; row = m .left i; values = m .fields i }))
-        (undoes stopped)
+        (undoes t row long open′ stopped)
 
     -- "A step answers "going" or the message's answer."
     pub steps : (r : Run) → NowRep text (tablesOf ws) p row (some r)
-        → Follows text p (laid ws s (carried row values (decided text (tablesOf ws) row values))) (stepped (service p) w s t (turn p r values))
+        → Follows text p (laid text ws s (carried row values (decided text (tablesOf ws) row values))) (stepped (service p) w s t (turn p r values))
     steps r (two, e, runs, named) =
         let known : NamedRun p (runOf text p row) = subst (NamedRun p) e named in
-        subst (λ (z : Run). Follows text p (laid ws s (carried row values (decided text (tablesOf ws) row values)))
+        subst (λ (z : Run). Follows text p (laid text ws s (carried row values (decided text (tablesOf ws) row values)))
         (stepped (service p) w s t (turn p z values))) (sym e)
         (outcome two (carried row values (decided text (tablesOf ws) row values)) (turn p (runOf text p row) values)
         (turn-named p (rep .fits .names) (resolving text (tablesOf ws) p (rep .fits)) (runOf text p row) values known)
-        (step-matches text (tablesOf ws) p (rep .fits) row values row-size runs known (fit .count) (fit .few)))
+        (step-matches text (tablesOf ws) p (rep .fits) row values long runs known (fit .count) (fit .few)))

@@ -1,22 +1,23 @@
--- Filled tables laid into the state, with its eight slots closed: how that is done, and that it is a fresh start.
+-- Filled tables laid into the state, with its eight slots closed and nobody in line: how that is done, and that it is a fresh start.
 use Prim.Native.Nat.{ℕ, zero, suc, _+_, _*_, _≤_, _<_}
 use mathlib.Core.Path.{_≡_, refl, sym, ap, ap₂, subst, _∙_}
 use mathlib.Core.List.{List, _∷_, _++_, append-assoc}
 use native.Mathlib.Numerals.{add-one}
 use native.Mathlib.Omega.{arith}
-use lib.ListN.{length, getD, take, drop, set, replicate, length-append, length-replicate, List·getD-append}
-use lib.Seq.{take-all, take-at, drop-at, drop-drop, drop-append-add, paste, paste-suc}
+use lib.ListN.{length, getD, take, drop, set, replicate, length-append, length-replicate, getD-replicate, List·getD-append}
+use lib.Seq.{getD-append-add, take-all, take-at, drop-at, drop-drop, drop-append-add, paste, paste-suc}
 use borrow.Author.Tests.{le-ltb, le-leb, eq-eqb}
-use Rattle.layout.specs.Layout.{valuesMost, valueCountAt, textLengthAt, startMarkAt, tableWords, rowWords, slotsWords, stateWords}
+use Rattle.layout.specs.Layout.{valuesMost, slotsMost, valueCountAt, textLengthAt, startMarkAt, tableWords, rowWords, lineAt, slotsWords, stateWords}
 use Rattle.model.specs.Vector.{program}
 use Rattle.catalog.specs.View.{objectCount, libraryOf}
 use Rattle.image.specs.Sizes.{valueCount, values-le}
 use Rattle.machine_words.specs.Row.{blank}
+use Rattle.machine_words.specs.Line.{countIn}
 use Rattle.machine_words.specs.Calls.{mark, tablesOf, rowOf, misfitOf}
 use Rattle.machine_refinement.specs.Rep.{Fits, Fresh}
 use Rattle.machine_start.specs.Started.{Started}
 
--- Tables, eight blank rows, and what lies past them.
+-- Tables, eight blank rows, an empty line, and what lies past them.
 abbrev pub installed : List ℕ → List ℕ → List ℕ
 installed tables rest = tables ++ (replicate slotsWords 0 ++ rest)
 
@@ -72,6 +73,16 @@ module _ (tables rest : List ℕ) (size : length tables ≡ tableWords) where
       ap (take rowWords) (past-tables tables (replicate slotsWords 0 ++ rest) (t * rowWords) size)
       ∙ zeros-part slotsWords (t * rowWords) rowWords rest (omega arith)
 
+  line-there : countIn (installed tables rest) ≡ 0
+  unfolding countIn
+  line-there =
+      let none : getD (installed tables rest) lineAt 0 ≡ 0 =
+      ap (λ (n : ℕ). getD (installed tables rest) (n + (slotsMost * rowWords)) 0) (sym size)
+      ∙ getD-append-add tables (replicate slotsWords 0 ++ rest) (slotsMost * rowWords) 0
+      ∙ List·getD-append (replicate slotsWords 0) rest 0 (slotsMost * rowWords) (omega (arith, length-replicate {A = ℕ} slotsWords 0))
+      ∙ getD-replicate slotsWords (slotsMost * rowWords) 0 0 (omega arith) in
+      rw none refl
+
   length-there : stateWords ≤ length (installed tables rest)
   length-there =
       omega (arith, length-append tables (replicate slotsWords 0 ++ rest), length-append (replicate slotsWords 0) rest, length-replicate {A = ℕ} slotsWords 0)
@@ -103,4 +114,5 @@ module _ (text ws tables values rest : List ℕ) (s : Started text ws tables) (e
     fit = lent-fits;
     fits = subst (λ (l : List ℕ). Fits text l (program (libraryOf text ws))) (sym (tables-there tables rest (s .size))) (s .fits);
     rows = row-there tables rest (s .size);
+    line = line-there tables rest (s .size);
   }

@@ -98,7 +98,7 @@ fn lay_tables(tables: &[u32], state: &mut [u32])
     }
 }
 
-// Closes the eight slots: clears all words of their rows.
+// Closes the eight slots and empties the line: clears all words of the rows and of the line.
 fn close_slots(state: &mut [u32])
     requires { ⌜ stateWords ≤ length (now state) ⌝ }
     ensures { λ _. ⌜ now (state .exit) ≡ take tableWords (now (state .entry)) ++ (replicate slotsWords 0 ++ drop stateWords (now (state .entry))) ⌝ }
@@ -110,7 +110,7 @@ fn close_slots(state: &mut [u32])
     }
 }
 
-// Lays filled tables into the state and closes its eight slots; what lies past the machine's words stays.
+// Lays filled tables into the state, closes its eight slots and empties the line; what lies past the machine's words stays.
 pub fn install(tables: &[u32], state: &mut [u32])
     requires { ⌜ (length (now tables) ≡ tableWords) × (stateWords ≤ length (now state)) ⌝ }
     ensures { λ _. ⌜ now (state .exit) ≡ now (tables .entry) ++ (replicate slotsWords 0 ++ drop stateWords (now (state .entry))) ⌝ }

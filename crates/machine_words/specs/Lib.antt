@@ -2,7 +2,9 @@ pub mod Said
 pub mod Row
 pub mod Turn
 pub mod Request
+pub mod Line
 pub mod Calls
 pub mod Meeting
+pub mod Spans
 pub mod Rows
 pub mod Cleared

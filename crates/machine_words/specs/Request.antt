@@ -90,6 +90,19 @@ locked text tables q row =
     (cond (eqb (q .kind) 1) (withLock row (wholeLocksAt + q .class) (q .place))
     (fold (domainLock text tables q) row (upto (λ d. d) (classCount tables))))
 
+-- Whether a send to a domain locks class d, and the row has not that lock.
+unfoldable pub misses : List ℕ → List ℕ → Wanted → List ℕ → ℕ → Bool
+unfolding concerns placeIn bit
+misses text tables q row d = concerns text tables q d && not (bit (getD row (wholeLocksAt + d) 0) (placeIn text tables q d))
+
+-- Whether the row holds every lock that the send takes (02, Ticket 7: "a send whose locks its slot already holds").
+unfoldable pub ownsLocks : List ℕ → List ℕ → Wanted → List ℕ → Bool
+unfolding misses any upto bit
+ownsLocks text tables q row =
+    cond (eqb (q .kind) 0) (bit (getD row (objectLocksAt + q .number) 0) (q .place) && bit (getD row (classLocksAt + q .class) 0) (q .place))
+    (cond (eqb (q .kind) 1) (bit (getD row (wholeLocksAt + q .class) 0) (q .place))
+    (not (any (misses text tables q row) (upto (λ d. d) (classCount tables)))))
+
 -- ---- the message
 
 -- Where a message starts: on an object, with its method's first statement there and the one past its last; past the last object,

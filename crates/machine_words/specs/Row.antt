@@ -1,6 +1,6 @@
 -- A slot's row of the state, and what a turn does to it. crates/layout/specs/Layout.antt has the places of its words. A closed
 -- slot's row is all zero.
--- - phase: 0 closed, 1 open, 2 a message runs; kind of the target: 0 an object, 1 a class, 2 a domain
+-- - phase: 0 closed, 1 open, 2 a message runs, 3 a send waits; kind of the target: 0 an object, 1 a class, 2 a domain
 -- - the method's name: place * 32 + length
 -- - class c's locks (M, false) are at `classLocksAt` + c, its locks (M, true) at `wholeLocksAt` + c
 -- - value k was set or added to where bit k % 32 of the word at `marksAt` + k / 32 is 1, and set where that at `setMarksAt` + k / 32
@@ -11,7 +11,7 @@ use mathlib.Core.List.{List, [], _∷_, _++_}
 use lib.ListN.{getD, set, drop, replicate}
 use lib.Bits.{bitOr}
 use lib.Dec.{eqb, ltb}
-use Rattle.layout.specs.Layout.{valuesMost, phaseAt, depthAt, stepsAt, sumAt, objectAt, argumentAt, changedAt, lockMarksAt, calledAt, activationsAt, nextAt, endAt, gotAt, replyAt, activationWords, shallowWords, objectLocksAt, marksAt, setMarksAt, spareAt, notesAt, rowWords}
+use Rattle.layout.specs.Layout.{valuesMost, phaseAt, depthAt, stepsAt, sumAt, objectAt, argumentAt, changedAt, lockMarksAt, calledAt, activationsAt, nextAt, endAt, gotAt, replyAt, activationWords, shallowWords, objectLocksAt, marksAt, setMarksAt, waitingAt, notesAt, rowWords}
 use Rattle.model.specs.Base.{digit}
 use Rattle.model.specs.Form.{Change, replace, increase}
 use Rattle.model.specs.Message.{changed}
@@ -169,12 +169,12 @@ released row =
     let rest = unlocked row in
     cond (eqb (getD row calledAt 0) 0) (replicate shallowWords 0 ++ drop shallowWords rest) (replicate objectLocksAt 0 ++ drop objectLocksAt rest)
 
--- "frees the slot": the row is released; where a value was changed, the words before `spareAt` and the notes that were made are
+-- "frees the slot": the row is released; where a value was changed, the words before `waitingAt` and the notes that were made are
 -- cleared. Every other word of a row that represents an open slot is 0, so that the row is blank then
 -- (crates/machine_refinement/specs/Freeing.antt), and not every note needs to be written.
 unfoldable pub freed : List ℕ → List ℕ
 unfolding unnoted released
-freed row = cond (eqb (getD row changedAt 0) 0) (released row) (replicate spareAt 0 ++ drop spareAt (unnoted row))
+freed row = cond (eqb (getD row changedAt 0) 0) (released row) (replicate waitingAt 0 ++ drop waitingAt (unnoted row))
 
 -- The transaction undone: "puts back .. and frees the slot".
 abbrev pub undoneTo : Answer → List ℕ → List ℕ → Left

@@ -1,33 +1,19 @@
 -- The state as tables and rows: each row's length, what a call finds in words that fit, and what is kept where one row is written.
-use Prim.Native.Nat.{ℕ, zero, suc, _+_, _≤_, _<_}
+use Prim.Native.Nat.{ℕ, suc, _+_, _≤_, _<_}
 use native.Mathlib.Omega.{arith}
 use mathlib.Core.Path.{_≡_, refl, sym, ap, _∙_}
 use mathlib.Core.Logic.{_≢_}
 use mathlib.Core.Bool.{Bool, true, false, cond, _&&_}
-use mathlib.Core.List.{List, [], _∷_}
-use lib.ListN.{length, getD, drop, set, length-set, length-take, length-drop}
-use lib.Seq.{sets, length-sets, getD-set-same, getD-set-other, getD-take, getD-drop, ext-getD}
+use mathlib.Core.List.{List}
+use lib.ListN.{length, getD, take, drop, set, length-set, length-take, length-drop}
+use lib.Seq.{length-sets, getD-set-other, getD-take, getD-drop, ext-getD, take-take, take-set-le, drop-drop, drop-set-lt, take-set-lt, drop-set-add}
 use lib.Dec.{eqb, leb, ltb}
 use borrow.Author.Tests.{ltb-false, leb-true, eqb-true}
-use Rattle.layout.specs.Layout.{valuesMost, valueCountAt, textLengthAt, startMarkAt, tableWords, rowWords, stateWords}
+use Rattle.layout.specs.Layout.{valuesMost, valueCountAt, textLengthAt, startMarkAt, tableWords, waitingAt, waitingWords, rowWords, lineAt, firstInLineAt, stateWords}
 use Rattle.laws.specs.Lists.{both-left, both-right}
+use Rattle.machine_words.specs.Spans.{sets-else, sets-there, drop-sets}
+use Rattle.machine_words.specs.Line.{waitingIn, countIn, firstInLine}
 use Rattle.machine_words.specs.Calls.{mark, tablesOf, rowStart, rowOf, withRow, isStarted, misfitOf}
-
--- ---- a run of stores
-
-sets-else : (vs l : List ℕ) (i n : ℕ) → (i ≤ n → n < i + length vs → ⊥) → getD (sets l i vs) n 0 ≡ getD l n 0
-sets-else [] l i n out = refl
-sets-else (v ∷ vs) l i n out =
-    sets-else vs (set l i v) (suc i) n (λ g h. out (omega arith) (omega arith)) ∙ getD-set-other l i n v 0 (λ e. out (omega arith) (omega arith))
-
-sets-there : (vs l : List ℕ) (i j : ℕ) → j < length vs → i + length vs ≤ length l → getD (sets l i vs) (i + j) 0 ≡ getD vs j 0
-sets-there [] l i j h k = absurd (omega arith)
-sets-there (v ∷ vs) l i zero h k =
-    let e : i + 0 ≡ i = omega arith in
-    ap (λ (n : ℕ). getD (sets (set l i v) (suc i) vs) n 0) e ∙ sets-else vs (set l i v) (suc i) i (λ g l. omega arith) ∙ getD-set-same l i v 0 (omega arith)
-sets-there (v ∷ vs) l i (suc j) h k =
-    let e : i + suc j ≡ suc i + j = omega arith in
-    ap (λ (n : ℕ). getD (sets (set l i v) (suc i) vs) n 0) e ∙ sets-there vs (set l i v) (suc i) j (omega arith) (omega (arith, length-set l i v))
 
 -- ---- rows
 
@@ -72,6 +58,17 @@ module _ (ws : List ℕ) (long : stateWords ≤ length ws) (s : ℕ) (h : s < 8)
       ext-getD 0 (tablesOf (withRow ws s row)) (tablesOf ws) (omega arith)
       (λ i l. getD-take tableWords (withRow ws s row) i 0 (omega arith) ∙ word-kept i (omega arith) ∙ sym (getD-take tableWords ws i 0 (omega arith)))
 
+  -- The line is kept.
+  line-word : (i : ℕ) → lineAt ≤ i → getD (withRow ws s row) i 0 ≡ getD ws i 0
+  line-word i l = sets-else row ws (rowStart s) i (λ g e. omega arith)
+
+  pub with-count : countIn (withRow ws s row) ≡ countIn ws
+  unfolding countIn
+  with-count = rw (line-word lineAt (omega arith))
+
+  pub with-line : (n : ℕ) → firstInLine (withRow ws s row) n ≡ firstInLine ws n
+  with-line n = ap (take n) (drop-sets row ws (rowStart s) firstInLineAt (omega arith))
+
   -- A state that fits still fits.
   pub with-fit : (text values values′ : List ℕ) → length values′ ≡ length values → misfitOf text (withRow ws s row) values′ ≡ misfitOf text ws values
   unfolding misfitOf
@@ -79,6 +76,79 @@ module _ (ws : List ℕ) (long : stateWords ≤ length ws) (s : ℕ) (h : s < 8)
       cond (ltb (length-sets ws (rowStart s) row i) stateWords) 21
       (cond (eqb (word-kept 5 (omega arith) i) mark && eqb (word-kept 4 (omega arith) i) (length text) && eqb (word-kept 3 (omega arith) i) (e i)
       && leb (e i) valuesMost) 0 24)
+
+-- A word of the line written: the tables and the rows are kept, and a state that fits still fits.
+module _ (ws : List ℕ) (i v : ℕ) (h : lineAt ≤ i) where
+  pub place-row : (t : ℕ) → t < 8 → rowOf (set ws i v) t ≡ rowOf ws t
+  unfolding rowOf
+  place-row t k =
+      ext-getD 0 (take rowWords (drop (rowStart t) (set ws i v))) (take rowWords (drop (rowStart t) ws)) same
+      (λ j l. word (set ws i v) j (omega (arith, long)) ∙ getD-set-other ws i (rowStart t + j) v 0 (λ e. omega (arith, long)) ∙ sym (word ws j (omega (arith, long))))
+    where
+      word : (l : List ℕ) (j : ℕ) → j < rowWords → getD (take rowWords (drop (rowStart t) l)) j 0 ≡ getD l (rowStart t + j) 0
+      word l j x = getD-take rowWords (drop (rowStart t) l) j 0 x ∙ getD-drop (rowStart t) l j 0
+
+      long : length (take rowWords (drop (rowStart t) (set ws i v))) ≤ rowWords
+      long = omega (arith, length-take rowWords (drop (rowStart t) (set ws i v)))
+
+      same : length (take rowWords (drop (rowStart t) (set ws i v))) ≡ length (take rowWords (drop (rowStart t) ws))
+      same =
+          omega (
+            arith,
+            length-take rowWords (drop (rowStart t) (set ws i v)),
+            length-drop (rowStart t) (set ws i v),
+            length-set ws i v,
+            length-take rowWords (drop (rowStart t) ws),
+            length-drop (rowStart t) ws,
+          )
+
+  pub place-tables : tablesOf (set ws i v) ≡ tablesOf ws
+  place-tables = take-set-le tableWords ws i v (omega arith)
+
+  head-word : (j : ℕ) → j < tableWords → getD (set ws i v) j 0 ≡ getD ws j 0
+  head-word j l = getD-set-other ws i j v 0 (λ e. omega arith)
+
+  pub place-fit : (text values : List ℕ) → misfitOf text (set ws i v) values ≡ misfitOf text ws values
+  unfolding misfitOf
+  place-fit text values = λ j.
+      cond (ltb (length-set ws i v j) stateWords) 21
+      (cond (eqb (head-word startMarkAt (omega arith) j) mark && eqb (head-word textLengthAt (omega arith) j) (length text)
+      && eqb (head-word valueCountAt (omega arith) j) (length values) && leb (length values) valuesMost) 0 24)
+
+-- The words of a slot's waiting send, as a part of the state.
+pub waiting-part : (ws : List ℕ) (t : ℕ) → take waitingWords (drop (rowStart t + waitingAt) ws) ≡ waitingIn (rowOf ws t)
+unfolding rowOf waitingIn
+waiting-part ws t =
+    ext-getD 0 left right same
+    (λ j l. getD-take waitingWords (drop (rowStart t + waitingAt) ws) j 0 (omega (arith, long)) ∙ getD-drop (rowStart t + waitingAt) ws j 0
+    ∙ ap (λ (n : ℕ). getD ws n 0) (at j)
+    ∙ sym (getD-take waitingWords (drop waitingAt (take rowWords (drop (rowStart t) ws))) j 0 (omega (arith, long))
+    ∙ getD-drop waitingAt (take rowWords (drop (rowStart t) ws)) j 0
+    ∙ getD-take rowWords (drop (rowStart t) ws) (waitingAt + j) 0 (omega (arith, long)) ∙ getD-drop (rowStart t) ws (waitingAt + j) 0))
+  where
+    left : List ℕ
+    left = take waitingWords (drop (rowStart t + waitingAt) ws)
+
+    right : List ℕ
+    right = take waitingWords (drop waitingAt (take rowWords (drop (rowStart t) ws)))
+
+    at : (j : ℕ) → rowStart t + waitingAt + j ≡ rowStart t + (waitingAt + j)
+    at j = omega arith
+
+    long : length (take waitingWords (drop (rowStart t + waitingAt) ws)) ≤ waitingWords
+    long = omega (arith, length-take waitingWords (drop (rowStart t + waitingAt) ws))
+
+    same : length left ≡ length right
+    same =
+        omega (
+          arith,
+          length-take waitingWords (drop (rowStart t + waitingAt) ws),
+          length-drop (rowStart t + waitingAt) ws,
+          length-take waitingWords (drop waitingAt (take rowWords (drop (rowStart t) ws))),
+          length-drop waitingAt (take rowWords (drop (rowStart t) ws)),
+          length-take rowWords (drop (rowStart t) ws),
+          length-drop (rowStart t) ws,
+        )
 
 -- ---- what fits
 

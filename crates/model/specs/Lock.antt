@@ -4,7 +4,7 @@ use mathlib.Core.Bool.{Bool, true, false, not, _&&_, _||_}
 use mathlib.Core.List.{List, [], _∷_, map}
 use lib.ListN.{length}
 use lib.Dec.{eqb}
-use Rattle.model.specs.Base.{any, keep, upto}
+use Rattle.model.specs.Base.{same, any, every, keep, upto}
 use Rattle.model.specs.Word.{Name}
 use Rattle.model.specs.Vector.{Program, commuteIn}
 use Rattle.model.specs.Message.{Target, object, class, domain, classOf, inDomain}
@@ -38,3 +38,29 @@ lockClash p (onClass c m w) (onClass d n v) = eqb c d && (w || v) && not (commut
 unfoldable pub locksClash : Program → List Lock → List Lock → Bool
 unfolding any commuteIn
 locksClash p ks held = any (λ k. any (lockClash p k) held) ks
+
+-- The method of a lock.
+abbrev pub lockMethod : Lock → Name
+lockMethod (onObject o m) = m
+lockMethod (onClass c m w) = m
+
+abbrev pub sameFlag : Bool → Bool → Bool
+sameFlag true b = b
+sameFlag false true = false
+sameFlag false false = true
+
+-- Whether two locks are both on one object, or on one class with one flag.
+abbrev pub samePlace : Lock → Lock → Bool
+samePlace (onObject o m) (onObject q n) = eqb o q
+samePlace (onObject o m) (onClass d n v) = false
+samePlace (onClass c m w) (onObject q n) = false
+samePlace (onClass c m w) (onClass d n v) = eqb c d && sameFlag w v
+
+-- Whether two locks are equal: in one place, for one method.
+abbrev pub sameLock : Lock → Lock → Bool
+sameLock x y = samePlace x y && same (lockMethod x) (lockMethod y)
+
+-- "a send whose locks its slot already holds" (02, Ticket 7): each is one of those held.
+unfoldable pub locksHeld : List Lock → List Lock → Bool
+unfolding any every same
+locksHeld ks held = every (λ k. any (sameLock k) held) ks

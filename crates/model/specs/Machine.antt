@@ -13,11 +13,11 @@ use Rattle.model.specs.Image.{startingValues, counted}
 use Rattle.model.specs.Vector.{Program, program}
 pub use Rattle.model.specs.Message.{Target, object, class, domain}
 use Rattle.model.specs.Message.{Message, classOf, visited, Effect, act, Run, begun, turn}
-use Rattle.model.specs.Lock.{Lock, domainOf, locksFor, locksClash}
+use Rattle.model.specs.Lock.{Lock, domainOf, locksFor, locksClash, locksHeld}
 pub use Rattle.model.specs.Undo.{Note, sumAdded, oldValue, Undo, renoted, noted, restored, putBack}
 use Rattle.model.specs.Alone.{alone}
 use Rattle.model.specs.Service as Calls
-pub use Rattle.model.specs.Service.{send, step, commit, abort, Answer, done, going, answer, refuse, held, stopped, World, Slot, closed, opened, Transaction}
+pub use Rattle.model.specs.Service.{send, step, commit, abort, Answer, done, going, answer, refuse, held, stopped, World, Slot, closed, opened, Transaction, Waiter}
 use Rattle.model.specs.Service.{Service, fresh, runCalls}
 
 -- "A send names slot, method place, argument and one target".
@@ -63,6 +63,8 @@ service p =
       unlocked = [];
       lock = λ m held. locksFor p (m .target) (m .method) ++ held;
       clash = λ m held. locksClash p (locksFor p (m .target) (m .method)) held;
+      meets = λ m n. locksClash p (locksFor p (m .target) (m .method)) (locksFor p (n .target) (n .method));
+      holds = λ m held. locksHeld (locksFor p (m .target) (m .method)) held;
       alone = alone p;
     }
 
@@ -78,7 +80,7 @@ startAnswer text count size = orFault (read text) (λ l. cond (ltb size stateWor
 
 -- The answers of a list of calls made after a start on these values, and the fields after it.
 unfoldable pub playedBy : Program → List ℕ → List Call → List Answer × List ℕ
-unfolding runCalls visited domainOf locksClash turn putBack
+unfolding runCalls visited domainOf locksClash locksHeld turn putBack
 playedBy p values cs = let (answers, last) = runCalls (service p) (fresh (service p) values) cs in (answers, last .fields)
 
 abbrev pub playedOn : Reading → List ℕ → List Call → List Answer × List ℕ

@@ -4,7 +4,7 @@ use mathlib.Core.Bool.{cond, _&&_}
 use mathlib.Core.Option.{Option, none, some}
 use mathlib.Core.List.{List, [], _∷_, _++_, map, flatMap}
 use lib.ListN.{length, getD, take, drop}
-use Rattle.model.specs.Base.{bytes, same, firstAt, put, least}
+use Rattle.model.specs.Base.{bytes, same, any, keep, firstAt, put, least}
 use Rattle.model.specs.Text.{pieces, words}
 use Rattle.model.specs.Word.{Name, isName, isNumber, decimal}
 use Rattle.model.specs.Library.{Library, Object, classAt, classNumber, memberPlace}
@@ -13,7 +13,7 @@ use Rattle.model.specs.Vector.{Program, program}
 use Rattle.model.specs.Image.{startingValues}
 use Rattle.model.specs.Tables.{digits, refusalPrinted}
 use Rattle.model.specs.Message.{visited, turn}
-use Rattle.model.specs.Lock.{domainOf, locksClash}
+use Rattle.model.specs.Lock.{domainOf, locksClash, locksHeld}
 use Rattle.model.specs.Undo.{putBack}
 use Rattle.model.specs.Service.{World, fresh}
 use Rattle.model.specs.Machine.{object, class, domain, Call, Request, to, send, step, commit, abort, Answer, done, going, answer, refuse, held, stopped, service, call}
@@ -130,7 +130,7 @@ objectsPrinted l (x ∷ xs) values =
 
 -- The machine of a program, which answers call lines.
 unfoldable pub onProgram : (p : Program) → Lines (World (service p))
-unfolding callLine requestFor words put least visited domainOf locksClash turn putBack objectsPrinted
+unfolding callLine requestFor words any keep put least visited domainOf locksClash locksHeld turn putBack objectsPrinted
 onProgram p = record { reply = λ w line. replyTo p w (callLine (words line)); last = λ w. objectsPrinted (p .library) (p .library .objects) (w .fields) }
 
 -- "a faulty text prints as in `tables`, and no call is run"; else the machine is started on the text's starting values.

@@ -2,11 +2,11 @@
 -- plain course", the numbers 31 to 41). 01's own messages, locks and undo notes are in Message, Lock, Undo and Alone; Machine
 -- puts the two together.
 use Prim.Native.Nat.{ℕ}
-use mathlib.Core.Bool.{Bool, true, false, not, _&&_}
+use mathlib.Core.Bool.{Bool, true, false, not, _&&_, _||_}
 use mathlib.Core.Option.{Option, none, some}
 use mathlib.Core.List.{List, [], _∷_, _++_}
 use lib.Dec.{eqb, ltb}
-use Rattle.model.specs.Base.{put, least}
+use Rattle.model.specs.Base.{any, keep, put, least}
 
 -- The outcome of a step: the message goes on, or ends with its answer, or is stopped.
 pub data Outcome (Run Effect : Type 0) : Type 0 where
@@ -51,6 +51,10 @@ pub record Service : Type 1 where
   pub lock : Message → Locks → Locks
   -- whether a lock of the message clashes with one of these
   pub clash : Message → Locks → Bool
+  -- whether a lock of the one message clashes with one of the other
+  pub meets : Message → Message → Bool
+  -- whether each lock of the message is one of these
+  pub holds : Message → Locks → Bool
   -- the course's run of one send: its answer and the fields after it; none where it would be stopped
   pub alone : Message → Fields → Option (ℕ × Fields)
 
@@ -59,7 +63,7 @@ pub data Call (Request : Type 0) : Type 0 where
   send : ℕ → Request → Call Request
   step commit abort : ℕ → Call Request
 
--- The answer of a call: done (a send: granted), "going", the message's answer, a tablet's number 31 to 36, 40 with the lowest
+-- The answer of a call: done (a send: granted), "going", the message's answer, a tablet's number 31 to 37, 40 with the lowest
 -- clashing slot, or 41.
 pub data Answer : Type 0 where
   done going : Answer
@@ -92,7 +96,7 @@ pub record Compared : Type 0 where
   pub run : Option ℕ
 
 module _ (𝓢 : Service) where
-  open Service 𝓢 using (Fields, Request, Message, Run, Effect, Undo, Locks, find, begun, turn, act, clean, noted, putBack, unlocked, lock, clash, alone)
+  open Service 𝓢 using (Fields, Request, Message, Run, Effect, Undo, Locks, find, begun, turn, act, clean, noted, putBack, unlocked, lock, clash, meets, holds, alone)
 
   -- ---- the machine
 
@@ -107,21 +111,27 @@ module _ (𝓢 : Service) where
     closed : Slot
     opened : Transaction → Slot
 
-  -- The whole state of the machine.
+  -- A waiting send and its slot (02, Ticket 7).
+  pub record Waiter : Type 0 where
+    pub slot : ℕ
+    pub message : Message
+
+  -- The whole state of the machine. "The line is in order of arrival" (02, Ticket 7), the first to arrive first.
   pub record World : Type 0 where
     pub fields : Fields
     pub slots : ℕ → Slot
+    pub line : List Waiter
 
   -- The machine after a start: "Start takes the list as it is".
   abbrev pub fresh : Fields → World
-  fresh fields = record { fields = fields; slots = λ s. closed }
+  fresh fields = record { fields = fields; slots = λ s. closed; line = [] }
 
   -- The machine with other fields, and with one slot changed.
   abbrev pub withFields : World → Fields → World
-  withFields w fields = record { fields = fields; slots = w .slots }
+  withFields w fields = record { fields = fields; slots = w .slots; line = w .line }
 
   abbrev pub withSlot : World → ℕ → Slot → World
-  withSlot w s x = record { fields = w .fields; slots = put (w .slots) s x }
+  withSlot w s x = record { fields = w .fields; slots = put (w .slots) s x; line = w .line }
 
   -- A transaction before its first granted send.
   abbrev pub newTransaction : Transaction
@@ -148,23 +158,69 @@ module _ (𝓢 : Service) where
   abbrev pub heldBy : Slot → Locks
   heldBy x = standing x .locks
 
-  -- Whether slot t is another than s and holds a lock that clashes with the message.
-  abbrev pub inTheWay : World → ℕ → Message → ℕ → Bool
-  inTheWay w s m t = not (eqb t s) && clash m (heldBy (w .slots t))
+  -- Whether the slot waits: it has a send in the line.
+  abbrev pub waits : List Waiter → ℕ → Bool
+  waits line s = any (λ v. eqb (v .slot) s) line
 
-  -- "A send clashing with no other slot gets all its locks and starts; otherwise 40 names the lowest clashing slot."
-  abbrev pub granted : World → ℕ → Message → Option ℕ → Answer × World
-  granted w s m (some k) = (held k, w)
-  granted w s m none = (done, started w s m)
+  -- Whether a send by slot s clashes with slot t, "holder or earlier waiter": t is another slot, and holds a lock or has a send in
+  -- this line that clashes with the message.
+  abbrev pub inTheWay : (ℕ → Slot) → List Waiter → ℕ → Message → ℕ → Bool
+  inTheWay slots line s m t =
+      not (eqb t s) && (clash m (heldBy (slots t)) || any (λ v. eqb (v .slot) t && meets m (v .message)) line)
 
-  -- "36 no such object, class or method"; "40, after 36"; "A first send that gets 36 or 40 leaves the slot closed" (02, Ticket 3).
+  -- "the lowest slot it clashes with", the line being those ahead of the send
+  abbrev pub obstacle : World → ℕ → Message → Option ℕ
+  obstacle w s m = least (inTheWay (w .slots) (w .line) s m) 8
+
+  -- The machine with one more waiter, the last in line.
+  abbrev pub queued : World → Waiter → World
+  queued w v = record { fields = w .fields; slots = w .slots; line = w .line ++ (v ∷ []) }
+
+  -- "A send that meets 40 now keeps its place, opens its slot if closed"
+  abbrev pub joined : World → ℕ → Message → World
+  joined w s m = queued (withSlot w s (opened (standing (w .slots s)))) (record { slot = s; message = m })
+
+  -- "one starts if it clashes neither with locks held nor with an earlier waiting send of another slot"
+  abbrev pub wokenOr : World → Waiter → Option ℕ → World
+  wokenOr w v (some k) = queued w v
+  wokenOr w v none = started w (v .slot) (v .message)
+
+  -- "waiting sends are looked at from the front": each arrives again, behind those that still wait.
+  abbrev pub wake : World → List Waiter → World
+  wake w [] = w
+  wake w (v ∷ vs) = wake (wokenOr w v (obstacle w (v .slot) (v .message))) vs
+
+  -- The machine with one slot closed, these fields and nobody in line.
+  abbrev pub closedOver : World → ℕ → Fields → World
+  closedOver w s fields = record { fields = fields; slots = put (w .slots) s closed; line = [] }
+
+  -- The line without a slot's send.
+  abbrev pub without : ℕ → List Waiter → List Waiter
+  without s line = keep (λ v. not (eqb (v .slot) s)) line
+
+  -- "When a transaction ends", with these fields: its slot closes, its send in line is withdrawn, and the others are woken.
+  abbrev pub ended : World → ℕ → Fields → World
+  ended w s fields = wake (closedOver w s fields) (without s (w .line))
+
+  -- A send that needs a new lock. "A send clashing with no other slot gets all its locks and starts"; else "still answers 40 with
+  -- the lowest slot it clashes with" (02, Ticket 7).
+  abbrev pub arrived : World → ℕ → Message → Option ℕ → Answer × World
+  arrived w s m (some k) = (held k, joined w s m)
+  arrived w s m none = (done, started w s m)
+
+  -- "except that a send whose locks its slot already holds starts regardless"
+  abbrev pub granted : World → ℕ → Message → Bool → Answer × World
+  granted w s m true = (done, started w s m)
+  granted w s m false = arrived w s m (obstacle w s m)
+
+  -- "36 no such object, class or method"; "40, after 36".
   abbrev pub sent : World → ℕ → Option Message → Answer × World
   sent w s none = (refuse 36, w)
-  sent w s (some m) = granted w s m (least (inTheWay w s m) 8)
+  sent w s (some m) = granted w s m (holds m (heldBy (w .slots s)))
 
   -- "Abort puts back .. and frees the slot."
   abbrev pub undone : World → ℕ → Transaction → World
-  undone w s t = withSlot (withFields w (putBack (t .undo) (w .fields))) s closed
+  undone w s t = ended w s (putBack (t .undo) (w .fields))
 
   -- The world after a step's effect, with what runs next.
   abbrev pub after : World → ℕ → Transaction → Effect → Option Run → World
@@ -187,7 +243,7 @@ module _ (𝓢 : Service) where
   abbrev pub onIdle : World → Transaction → Call Request → Answer × World
   onIdle w t (send s q) = sent w s (find q)
   onIdle w t (step s) = (refuse 35, w)
-  onIdle w t (commit s) = (done, withSlot w s closed)
+  onIdle w t (commit s) = (done, ended w s (w .fields))
   onIdle w t (abort s) = (done, undone w s t)
 
   -- On an open slot where a message runs: "34 message running (send, commit)"
@@ -197,15 +253,22 @@ module _ (𝓢 : Service) where
   onRunning w t r (commit s) = (refuse 34, w)
   onRunning w t r (abort s) = (done, undone w s t)
 
-  -- A call on an open slot, by its running message, if any.
-  abbrev pub onOpen : World → Call Request → Transaction → Option Run → Answer × World
-  onOpen w c t none = onIdle w t c
-  onOpen w c t (some r) = onRunning w t r c
+  -- On a waiting slot: "37, the slot is waiting, for send, step and commit"; "Abort of a waiting slot withdraws it." (02, Ticket 7)
+  abbrev pub onWaiting : World → Transaction → Call Request → Answer × World
+  onWaiting w t (send s q) = (refuse 37, w)
+  onWaiting w t (step s) = (refuse 37, w)
+  onWaiting w t (commit s) = (refuse 37, w)
+  onWaiting w t (abort s) = (done, undone w s t)
 
-  -- A call, by the state of its slot.
-  abbrev pub onSlot : World → Call Request → Slot → Answer × World
-  onSlot w c closed = onClosed w c
-  onSlot w c (opened t) = onOpen w c t (t .running)
+  -- A call on an open slot that does not wait, by its running message, if any.
+  abbrev pub onReady : World → Call Request → Transaction → Option Run → Answer × World
+  onReady w c t none = onIdle w t c
+  onReady w c t (some r) = onRunning w t r c
+
+  -- A call on an open slot, by whether it waits: 37 is "tested after 32".
+  abbrev pub onOpen : World → Call Request → Transaction → Bool → Answer × World
+  onOpen w c t true = onWaiting w t c
+  onOpen w c t false = onReady w c t (t .running)
 
   -- The slot that a call names.
   abbrev pub slotOf : Call Request → ℕ
@@ -213,6 +276,11 @@ module _ (𝓢 : Service) where
   slotOf (step s) = s
   slotOf (commit s) = s
   slotOf (abort s) = s
+
+  -- A call, by the state of its slot.
+  abbrev pub onSlot : World → Call Request → Slot → Answer × World
+  onSlot w c closed = onClosed w c
+  onSlot w c (opened t) = onOpen w c t (waits (w .line) (slotOf c))
 
   -- "31 slot above 7"
   abbrev pub inRange : World → Call Request → Bool → Answer × World
@@ -225,7 +293,7 @@ module _ (𝓢 : Service) where
 
   -- The answers of a list of calls, and the world after it.
   unfoldable pub runCalls : World → List (Call Request) → List Answer × World
-  unfolding put least
+  unfolding any keep put least
   runCalls w [] = ([], w)
   runCalls w (c ∷ cs) =
       let (a, next) = call w c in
@@ -303,6 +371,15 @@ module _ (𝓢 : Service) where
   addAnswer x s v none = x
   addAnswer x s v (some m) = withSends x s (record { latest = some m; list = x .slots s .list ++ (record { message = m; answer = v } ∷ []) })
 
+  -- "in the plain course a send that joins the line becomes its slot's latest too" (02, Ticket 7)
+  abbrev pub ifTaken : Answer → Course → Course → Course
+  ifTaken done x y = y
+  ifTaken going x y = x
+  ifTaken (answer v) x y = x
+  ifTaken (refuse n) x y = x
+  ifTaken (held s) x y = y
+  ifTaken stopped x y = x
+
   -- "Any other refused call does nothing."
   abbrev pub ifDone : Answer → Course → Course → Course
   ifDone done x y = y
@@ -323,7 +400,7 @@ module _ (𝓢 : Service) where
 
   -- The course, fed one call with its answer.
   abbrev pub fed : Course → Call Request → Answer → Course
-  fed x (send s q) a = ifDone a x (named x s (find q))
+  fed x (send s q) a = ifTaken a x (named x s (find q))
   fed x (step s) a = afterStep a x s
   fed x (commit s) a = ifDone a x (committed x s)
   fed x (abort s) a = ifDone a x (withSends x s noSends)

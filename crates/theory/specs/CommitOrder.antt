@@ -16,7 +16,7 @@ use Rattle.theory.specs.VectorLaws.{Compiled, program-compiled}
 use Rattle.theory.specs.ServiceLaws.{laws}
 
 -- Machine and course run side by side are the machine's list of calls, and the course fed its answers.
-both-is : (𝓢 : Service) (w : World 𝓢) (x : Course 𝓢) (cs : List (Calls.Call (𝓢 .Request)))
+pub both-is : (𝓢 : Service) (w : World 𝓢) (x : Course 𝓢) (cs : List (Calls.Call (𝓢 .Request)))
     → both 𝓢 w x cs ≡ (runCalls 𝓢 w cs .1, fedAll 𝓢 x cs (runCalls 𝓢 w cs .0))
 unfolding runCalls fedAll
 both-is 𝓢 w x [] = refl

@@ -22,7 +22,7 @@ use Rattle.model.specs.Rehearsal.{rehearsed}
 use Rattle.model.specs.Service.{callNumber, callDetail}
 use Rattle.model.specs.Machine.{object, class, domain, to, Call, send, step, commit, abort, Answer, done, going, answer, refuse, held, stopped, startAnswer, played}
 use Rattle.model.specs.Course.{Compared, course}
-use Rattle.theory.specs.ExampleTexts.{text, lanes, figure1, endless, diamond, circle, prefixed, mixed, tally, long}
+use Rattle.theory.specs.ExampleTexts.{text, lanes, figure1, endless, spiral, diamond, circle, prefixed, mixed, tally, long}
 
 -- An input and the expected result.
 pub data Row : Type 0 where
@@ -161,8 +161,8 @@ vectors =
     prints circle (text ("a p WRW nnnn" ∷ "a q WRW nnnn" ∷ "a r WRW nnnn" ∷ "a s WRW nnnn" ∷ [])) ∷
     prints prefixed (text ("a m WN nn" ∷ "a n WN nn" ∷ "b m NW nn" ∷ "b n NW nn" ∷ "c m NNW nn" ∷ "c n NNW nn" ∷ [])) ∷ []
 
--- In `mixed` the methods of a and b are g 0 and h 1; the objects are one of a, one of b and another of a. A first send that gets 36 or
--- 40 leaves its slot closed.
+-- In `mixed` the methods of a and b are g 0 and h 1; the objects are one of a, one of b and another of a. A first send that gets 36
+-- leaves its slot closed; one that gets 40 opens it.
 abbrev machine : List Row
 machine =
     plays mixed (send 0 (to (domain 0) 0 3) ∷ replicate 12 (step 0)) (done ∷ replicate 11 going ++ (answer 18 ∷ [])) (8 ∷ 7 ∷ 3 ∷ 2 ∷ []) ∷
@@ -172,7 +172,7 @@ machine =
     (refuse 31 ∷ refuse 32 ∷ refuse 36 ∷ refuse 36 ∷ refuse 36 ∷ refuse 32 ∷ done ∷ done ∷ refuse 32 ∷ []) (5 ∷ 7 ∷ 0 ∷ 4294967295 ∷ []) ∷
     plays mixed
     (send 5 (to (object 1) 0 9) ∷ step 5 ∷ step 5 ∷ send 2 (to (domain 0) 0 1) ∷ commit 2 ∷ send 2 (to (class 0) 0 1) ∷ step 2 ∷ abort 2 ∷ abort 5 ∷ [])
-    (done ∷ going ∷ going ∷ held 5 ∷ refuse 32 ∷ done ∷ going ∷ done ∷ done ∷ []) (5 ∷ 7 ∷ 0 ∷ 4294967295 ∷ []) ∷
+    (done ∷ going ∷ going ∷ held 5 ∷ refuse 37 ∷ refuse 37 ∷ refuse 37 ∷ done ∷ done ∷ []) (5 ∷ 7 ∷ 0 ∷ 4294967295 ∷ []) ∷
     []
 
 -- Additions. In `tally` the methods are count 0, look 1, fix 2, twice 3, maybe 4, both 5. They run side by side and are taken back one
@@ -185,9 +185,9 @@ additions =
     reads (text ("class a" ∷ "field x" ∷ "method m" ∷ "add x" ∷ "end" ∷ [])) 12 4 ∷
     reads (text ("class a" ∷ "field x" ∷ "method m" ∷ "add x 1 1" ∷ "end" ∷ [])) 12 4 ∷
     plays tally
-    (send 0 (to (object 0) 0 3) ∷ send 1 (to (object 0) 0 5) ∷ send 2 (to (object 0) 1 0) ∷ send 3 (to (object 0) 3 0) ∷ send 4 (to (object 0) 4 0) ∷
+    (send 0 (to (object 0) 0 3) ∷ send 1 (to (object 0) 0 5) ∷ send 4 (to (object 0) 4 0) ∷ send 2 (to (object 0) 1 0) ∷ send 3 (to (object 0) 3 0) ∷
     step 0 ∷ step 1 ∷ step 0 ∷ step 1 ∷ abort 0 ∷ [])
-    (done ∷ done ∷ held 0 ∷ held 0 ∷ done ∷ going ∷ going ∷ answer 0 ∷ answer 0 ∷ done ∷ []) (4 ∷ 0 ∷ []) ∷
+    (done ∷ done ∷ done ∷ held 0 ∷ held 0 ∷ going ∷ going ∷ answer 0 ∷ answer 0 ∷ done ∷ []) (4 ∷ 0 ∷ []) ∷
     plays tally
     (send 0 (to (object 0) 0 3) ∷ send 1 (to (object 0) 0 5) ∷ step 0 ∷ step 0 ∷ step 1 ∷ step 1 ∷ commit 1 ∷ send 0 (to (object 0) 2 9) ∷ step 0 ∷ step 0 ∷
     send 0 (to (object 0) 0 6) ∷ step 0 ∷ step 0 ∷ [])
@@ -199,6 +199,36 @@ additions =
     agrees tally
     (send 0 (to (object 0) 0 3) ∷ send 1 (to (class 0) 0 5) ∷ send 2 (to (domain 0) 4 0) ∷ step 1 ∷ step 0 ∷ step 2 ∷ step 2 ∷ step 0 ∷ step 1 ∷ abort 2 ∷
     commit 1 ∷ send 0 (to (object 0) 5 1) ∷ replicate 8 (step 0) ++ (commit 0 ∷ [])) ∷
+    []
+
+-- The line. A commit wakes the first in it, and 40 names the lowest slot, not the first in line; an abort wakes one that does not clash
+-- with those ahead; a new send waits behind a waiting one that it clashes with, and starts when that one is withdrawn; a send whose
+-- locks its slot holds passes, one to an object after one to its class does not; 41 and commit wake; and a list against the course.
+abbrev line : List Row
+line =
+    plays mixed
+    (send 6 (to (object 0) 0 1) ∷ send 5 (to (object 0) 0 2) ∷ send 3 (to (object 0) 0 4) ∷ send 7 (to (object 0) 0 8) ∷
+    send 5 (to (object 0) 1 0) ∷ step 5 ∷ commit 5 ∷ step 6 ∷ step 6 ∷ step 6 ∷ commit 6 ∷ step 3 ∷ step 5 ∷ step 7 ∷ [])
+    (done ∷ held 6 ∷ held 5 ∷ held 3 ∷ refuse 37 ∷ refuse 37 ∷ refuse 37 ∷ going ∷ going ∷ answer 6 ∷ done ∷ refuse 37 ∷ going ∷ refuse 37 ∷ [])
+    (8 ∷ 7 ∷ 0 ∷ 4294967295 ∷ []) ∷
+    plays mixed
+    (send 0 (to (object 0) 0 1) ∷ send 1 (to (object 2) 0 1) ∷ send 2 (to (object 0) 0 1) ∷ send 3 (to (object 2) 0 1) ∷ send 4 (to (object 1) 0 1) ∷
+    abort 1 ∷ step 2 ∷ step 3 ∷ [])
+    (done ∷ done ∷ held 0 ∷ held 1 ∷ done ∷ done ∷ refuse 37 ∷ going ∷ []) (5 ∷ 7 ∷ 0 ∷ 0 ∷ []) ∷
+    plays mixed
+    (send 0 (to (object 0) 1 0) ∷ send 1 (to (object 0) 0 1) ∷ send 2 (to (object 0) 1 0) ∷ step 2 ∷ abort 1 ∷ step 2 ∷ step 1 ∷ [])
+    (done ∷ held 0 ∷ held 1 ∷ refuse 37 ∷ done ∷ going ∷ refuse 32 ∷ []) (5 ∷ 7 ∷ 0 ∷ 4294967295 ∷ []) ∷
+    plays mixed
+    (send 0 (to (domain 0) 1 0) ∷ replicate 6 (step 0) ++ (send 1 (to (object 0) 0 1) ∷ send 0 (to (class 0) 1 0) ∷ replicate 4 (step 0)) ++
+    (send 0 (to (object 0) 1 0) ∷ []))
+    (done ∷ replicate 5 going ++ (answer 11 ∷ held 0 ∷ done ∷ going ∷ going ∷ going ∷ answer 4 ∷ held 1 ∷ [])) (5 ∷ 7 ∷ 0 ∷ 4294967295 ∷ []) ∷
+    plays spiral
+    (send 0 (to (object 0) 0 0) ∷ send 1 (to (object 0) 1 9) ∷ send 2 (to (object 0) 1 3) ∷ replicate 16 (step 0) ++
+    (step 2 ∷ step 1 ∷ step 1 ∷ commit 1 ∷ step 2 ∷ []))
+    (done ∷ held 0 ∷ held 0 ∷ replicate 15 going ++ (stopped ∷ refuse 37 ∷ going ∷ answer 0 ∷ done ∷ going ∷ [])) (3 ∷ []) ∷
+    agrees mixed
+    (send 0 (to (object 0) 0 1) ∷ send 1 (to (class 0) 0 2) ∷ send 2 (to (object 0) 1 0) ∷ replicate 3 (step 0) ++ (commit 0 ∷ replicate 6 (step 1)) ++
+    (commit 1 ∷ step 2 ∷ step 2 ∷ commit 2 ∷ [])) ∷
     []
 
 -- A message of 1,024 steps, and one of one more step.
@@ -214,8 +244,8 @@ courses =
     (send 0 (to (object 0) 0 1) ∷ send 1 (to (class 1) 0 2) ∷ step 0 ∷ step 1 ∷ step 1 ∷ step 0 ∷ step 1 ∷ step 1 ∷ step 0 ∷ step 1 ∷ step 1 ∷
     commit 1 ∷ send 0 (to (domain 0) 0 4) ∷ replicate 12 (step 0) ++ (commit 0 ∷ send 0 (to (object 0) 0 7) ∷ step 0 ∷ abort 0 ∷ [])) ∷ []
 
--- 51 for a line of another form and for a last line without LF, 36 for an unknown name, 40 with its slot; 31 and 34 before an unknown
--- name, and the values as an open transaction left them; a faulty text; no input.
+-- 51 for a line of another form and for a last line without LF, 36 for an unknown name, 40 with its slot, 37 until the line wakes;
+-- 31, 37 and 34 before an unknown name, and the values as an open transaction left them; a faulty text; no input.
 abbrev adder : List ℕ
 adder = text ("class a" ∷ "field x" ∷ "method m" ∷ "set x + x arg" ∷ "end" ∷ "object o a 5" ∷ [])
 
@@ -223,8 +253,10 @@ abbrev rehearsals : List Row
 rehearsals =
     rehearses adder
     (text
-    ("send 0 o m 3" ∷ "step 0" ∷ "step 0" ∷ "send 1 o m 1" ∷ "step 1" ∷ "send 1 o q 1" ∷ "all 1 b m 1" ∷ "step" ∷ "open 1" ∷ "commit 0" ∷ "tree 1 a m 4" ∷ "step 8" ∷ []) ++ bytes "abort 1")
-    (text ("ok" ∷ "going" ∷ "answer 0" ∷ "40 0" ∷ "32" ∷ "36" ∷ "36" ∷ "51" ∷ "51" ∷ "ok" ∷ "ok" ∷ "31" ∷ "51" ∷ "o 8" ∷ [])) ∷
+    ("send 0 o m 3" ∷ "step 0" ∷ "step 0" ∷ "send 1 o m 1" ∷ "step 1" ∷ "send 1 o q 1" ∷ "send 2 o q 1" ∷ "all 2 b m 1" ∷ "step" ∷ "open 1" ∷
+    "commit 0" ∷ "tree 1 a m 4" ∷ "step 1" ∷ "step 8" ∷ []) ++ bytes "abort 1")
+    (text
+    ("ok" ∷ "going" ∷ "answer 0" ∷ "40 0" ∷ "37" ∷ "37" ∷ "36" ∷ "36" ∷ "51" ∷ "51" ∷ "ok" ∷ "34" ∷ "going" ∷ "31" ∷ "51" ∷ "o 9" ∷ [])) ∷
     rehearses adder (text ("send 8 b m 1" ∷ "send 0 o m 3" ∷ "step 0" ∷ "send 0 b m 1" ∷ [])) (text ("31" ∷ "ok" ∷ "going" ∷ "34" ∷ "o 8" ∷ [])) ∷
     rehearses (bytes "class a\nclass a\n") (bytes "step 0\n") (bytes "refused 13 2\n") ∷
     rehearses lanes [] (text ("lane1 0 0 0" ∷ [])) ∷
@@ -265,6 +297,10 @@ additions-pass : Passing additions
 unfolding every passes tally text
 additions-pass = refl
 
+line-pass : Passing line
+unfolding every passes mixed spiral
+line-pass = refl
+
 stops-pass : Passing stops
 unfolding every passes long
 stops-pass = refl
@@ -279,10 +315,10 @@ rehearsals-pass = refl
 
 -- The table.
 abbrev pub rows : List Row
-rows = starred ++ (lent ++ (vectors ++ (machine ++ (additions ++ (stops ++ (courses ++ rehearsals))))))
+rows = starred ++ (lent ++ (vectors ++ (machine ++ (additions ++ (line ++ (stops ++ (courses ++ rehearsals)))))))
 
 -- Every row passes.
 pub every-row-passes : every passes rows ≡ true
 every-row-passes =
     both starred _ starred-pass (both lent _ lent-pass (both vectors _ vectors-pass (both machine _ machine-pass
-    (both additions _ additions-pass (both stops _ stops-pass (both courses _ courses-pass rehearsals-pass))))))
+    (both additions _ additions-pass (both line _ line-pass (both stops _ stops-pass (both courses _ courses-pass rehearsals-pass)))))))

@@ -15,6 +15,7 @@ pub mod UndoLaws
 pub mod Alone
 pub mod ServiceLaws
 pub mod CommitOrder
+pub mod Waiting
 pub mod Holding
 pub mod Pass
 pub mod Accepted

@@ -1,18 +1,20 @@
--- Messages whose locks do not clash are free of each other: for each object that both visit, their methods commute in its class.
+-- Messages whose locks do not clash are free of each other: for each object that both visit, their methods commute in its class. And
+-- the laws of clashing and holding: it is symmetric, by parts, and locks that are held clash with what those held clash with.
 use Prim.Native.Nat.{ℕ, zero, suc, _<_}
-use mathlib.Core.Path.{_≡_, refl, sym, ap, _∙_}
+use mathlib.Core.Path.{_≡_, refl, sym, ap, _∙_, subst}
+use mathlib.Core.Logic.{⊎-elim}
 use mathlib.Core.Bool.{Bool, true, false, not, _&&_, _||_, true≢false}
-use mathlib.Core.List.{List, [], _∷_, _++_, List·Memᴰ, List·Memᴰ·head, List·Memᴰ·tail, Memᴰ·append-left, Memᴰ·append-right}
+use mathlib.Core.List.{List, [], _∷_, _++_, List·Memᴰ, List·Memᴰ·head, List·Memᴰ·tail, List·Memᴰ·not-nil, List·Memᴰ·append-cases, Memᴰ·append-left, Memᴰ·append-right}
 use lib.ListN.{length, getD}
 use lib.Dec.{eqb}
-use Rattle.model.specs.Base.{any, upto}
+use Rattle.model.specs.Base.{any, same, upto}
 use Rattle.model.specs.Word.{Name}
 use Rattle.model.specs.Mode.{Null, clash}
 use Rattle.model.specs.Vector.{Program, Vector, commute, vectorOf, commuteIn}
 use Rattle.model.specs.Message.{Target, object, class, domain, Message, classOf, inDomain, inTarget, visited, sizeOf}
-use Rattle.model.specs.Lock.{Lock, onObject, onClass, domainOf, locksFor, lockClash, locksClash}
-use Rattle.laws.specs.Lists.{eqb-true, eqb-same, both-left, both-right, any-none, none-any, in-keep, keep-in, in-upto, map-in}
-use Rattle.laws.specs.Modes.{null-apart, apart-null}
+use Rattle.model.specs.Lock.{Lock, onObject, onClass, domainOf, locksFor, lockClash, locksClash, sameFlag, sameLock, locksHeld}
+use Rattle.laws.specs.Lists.{eqb-true, eqb-same, both-left, both-right, neither-left, neither-right, fail-together, same-sound, any-member, every-member, any-none, none-any, in-keep, keep-in, in-upto, map-in}
+use Rattle.laws.specs.Modes.{null-apart, apart-null, clash-sym}
 use Rattle.laws.specs.Lookup.{class-with-field}
 use Rattle.theory.specs.Footprint.{Visits, Free}
 
@@ -27,6 +29,31 @@ commute-apart (v ∷ vs) (w ∷ ws) e zero = unless (clash v w) (both-left (not 
     unless true q = sym q
     unless false q = refl
 commute-apart (v ∷ vs) (w ∷ ws) e (suc k) = commute-apart vs ws (both-right (not (clash v w)) (commute vs ws) e) k
+
+-- Commuting is symmetric.
+commute-sym : (vs ws : Vector) → commute vs ws ≡ commute ws vs
+unfolding commute
+commute-sym [] [] = refl
+commute-sym [] (w ∷ ws) = refl
+commute-sym (v ∷ vs) [] = refl
+commute-sym (v ∷ vs) (w ∷ ws) = λ i. not (clash-sym v w i) && commute-sym vs ws i
+
+-- The test of locks means that they are equal.
+same-flag : (w v : Bool) → sameFlag w v ≡ true → w ≡ v
+same-flag true v e = sym e
+same-flag false true e = e
+same-flag false false e = refl
+
+pub same-lock : (a b : Lock) → sameLock a b ≡ true → a ≡ b
+same-lock (onObject o m) (onObject q n) e =
+    λ i. onObject (eqb-true o q (both-left (eqb o q) (same m n) e) i) (same-sound m n (both-right (eqb o q) (same m n) e) i)
+same-lock (onObject o m) (onClass d n v) e = absurd (true≢false (sym e))
+same-lock (onClass c m w) (onObject q n) e = absurd (true≢false (sym e))
+same-lock (onClass c m w) (onClass d n v) e =
+    let h = both-left (eqb c d && sameFlag w v) (same m n) e in
+    λ i.
+    onClass (eqb-true c d (both-left (eqb c d) (sameFlag w v) h) i) (same-sound m n (both-right (eqb c d && sameFlag w v) (same m n) e) i)
+    (same-flag w v (both-right (eqb c d) (sameFlag w v) h) i)
 
 -- A conjunction whose first part holds fails by its second.
 commutes : (a b : Bool) → a ≡ true → a && not b ≡ false → b ≡ true
@@ -87,15 +114,75 @@ module _ (p : Program) where
   apart-commute m n o k v w h f =
       meet (locksOf m) (locksOf n) o (m .method) (n .method) (cover (m .target) (m .method) o k v h) (cover (n .target) (n .method) o k w h) f
 
-  -- A send that clashes with none of the held locks, those of another message among them, is free of that message.
-  pub free-lock : (m n : Message) (held : List Lock) → locksClash p (locksOf m) (locksOf n ++ held) ≡ false
-      → (locksClash p (locksOf m) held ≡ false) × Free p m n
+  -- Messages whose locks do not clash are free of each other.
+  pub meets-free : (m n : Message) → locksClash p (locksOf m) (locksOf n) ≡ false → Free p m n
   unfolding commuteIn
-  free-lock m n held e =
-      let none = apart-all (locksOf m) (locksOf n ++ held) e in (
-        all-apart (locksOf m) held (λ a b x y. none a b x (Memᴰ·append-right (locksOf n) y)),
-        record {
-          apart = λ o k v w h. commute-apart (vectorOf p (classOf p o) (m .method)) (vectorOf p (classOf p o) (n .method))
-              (apart-commute m n o k v w h (λ a b x y. none a b x (Memᴰ·append-left held y))) k;
-        },
-      )
+  meets-free m n e =
+      record {
+        apart = λ o k v w h.
+            commute-apart (vectorOf p (classOf p o) (m .method)) (vectorOf p (classOf p o) (n .method))
+            (apart-commute m n o k v w h (apart-all (locksOf m) (locksOf n) e)) k;
+      }
+
+  -- ---- the laws of clashing
+
+  -- It is symmetric.
+  object-sym : (o q : ℕ) (m n : Name) → eqb o q && not (commuteIn p (classOf p o) m n) ≡ false → eqb q o && not (commuteIn p (classOf p q) n m) ≡ false
+  unfolding commuteIn
+  object-sym o q m n e = go (eqb q o) refl
+    where
+      go : (b : Bool) → eqb q o ≡ b → b && not (commuteIn p (classOf p q) n m) ≡ false
+      go false h = refl
+      go true h =
+          let same : q ≡ o = eqb-true q o h in
+          ap not (ap (λ (x : ℕ). commuteIn p (classOf p x) n m) same ∙ commute-sym (vectorOf p (classOf p o) n) (vectorOf p (classOf p o) m)
+          ∙ commutes (eqb o q) (commuteIn p (classOf p o) m n) (ap (eqb o) same ∙ eqb-same o) e)
+
+  lock-sym : (a b : Lock) → lockClash p a b ≡ false → lockClash p b a ≡ false
+  unfolding commuteIn
+  lock-sym (onObject o m) (onObject q n) e = object-sym o q m n e
+  lock-sym (onObject o m) (onClass d n v) e = refl
+  lock-sym (onClass c m w) (onObject q n) e = refl
+  lock-sym (onClass c m w) (onClass d n v) e = go (eqb d c && (v || w)) refl
+    where
+      swap : (a b : Bool) → a || b ≡ true → b || a ≡ true
+      swap true true h = refl
+      swap true false h = refl
+      swap false true h = refl
+      swap false false h = h
+
+      go : (b : Bool) → eqb d c && (v || w) ≡ b → b && not (commuteIn p d n m) ≡ false
+      go false h = refl
+      go true h =
+          let same : d ≡ c = eqb-true d c (both-left (eqb d c) (v || w) h) in
+          ap not (ap (λ (x : ℕ). commuteIn p x n m) same ∙ commute-sym (vectorOf p c n) (vectorOf p c m)
+          ∙ commutes (eqb c d && (w || v)) (commuteIn p c m n) (rw (same, eqb-same c) (swap v w (both-right (eqb d c) (v || w) h))) e)
+
+  pub locks-sym : (ks hs : List Lock) → locksClash p ks hs ≡ locksClash p hs ks
+  locks-sym ks hs = fail-together (locksClash p ks hs) (locksClash p hs ks) (one-way ks hs) (one-way hs ks)
+    where
+      one-way : (ks hs : List Lock) → locksClash p ks hs ≡ false → locksClash p hs ks ≡ false
+      one-way ks hs e = all-apart hs ks (λ a b x y. lock-sym b a (apart-all ks hs e b a y x))
+
+  -- Nothing clashes with no locks; with two lists of locks clashes what clashes with one of them.
+  pub clash-none : (ks : List Lock) → locksClash p ks [] ≡ false
+  clash-none ks = all-apart ks [] (λ a b x y. absurd (List·Memᴰ·not-nil y))
+
+  pub clash-append : (ks ns hs : List Lock) → locksClash p ks (ns ++ hs) ≡ (locksClash p ks ns || locksClash p ks hs)
+  clash-append ks ns hs = fail-together (locksClash p ks (ns ++ hs)) (locksClash p ks ns || locksClash p ks hs)
+      (λ e.
+      let f = apart-all ks (ns ++ hs) e in
+      let l : locksClash p ks ns ≡ false = all-apart ks ns (λ a b x y. f a b x (Memᴰ·append-left hs y)) in
+      let r : locksClash p ks hs ≡ false = all-apart ks hs (λ a b x y. f a b x (Memᴰ·append-right ns y)) in
+      ap (λ (z : Bool). z || locksClash p ks hs) l ∙ r)
+      (λ e.
+      let l = apart-all ks ns (neither-left (locksClash p ks ns) (locksClash p ks hs) e) in
+      let r = apart-all ks hs (neither-right (locksClash p ks ns) (locksClash p ks hs) e) in
+      all-apart ks (ns ++ hs) (λ a b x y. ⊎-elim (λ k. l a b x k) (λ k. r a b x k) (List·Memᴰ·append-cases ns y)))
+
+  -- Locks that are all held clash with nothing that those held do not clash with.
+  pub held-meets : (ks ns hs : List Lock) → locksHeld ks hs ≡ true → locksClash p ns hs ≡ false → locksClash p ns ks ≡ false
+  unfolding locksHeld
+  held-meets ks ns hs h e = all-apart ns ks (λ a b x y.
+      let (k, i, q) = any-member (sameLock b) hs (every-member (λ k. any (sameLock k) hs) y h) in
+      subst (λ (z : Lock). lockClash p a z ≡ false) (sym (same-lock b k q)) (apart-all ns hs e a k x i))

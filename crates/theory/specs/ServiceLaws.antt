@@ -5,12 +5,12 @@ use Rattle.model.specs.Machine.{service}
 use Rattle.twophase.specs.Laws.{Laws}
 use Rattle.theory.specs.Lawful.{Lawful}
 use Rattle.theory.specs.VectorLaws.{Compiled, programBy-compiled, program-compiled}
-use Rattle.theory.specs.Footprint.{May, Agree, Free, Aside}
+use Rattle.theory.specs.Footprint.{May, Agree, Aside}
 use Rattle.theory.specs.Coverage.{Of, of-begun}
 use Rattle.theory.specs.ReadsOnly.{turn-local}
 use Rattle.theory.specs.SetsOnly.{of-turn, may-goes, may-ends}
-use Rattle.theory.specs.Locality.{agree-refl, agree-sym, agree-trans, agree-act, free-sym, free-commute, free-agree}
-use Rattle.theory.specs.LockLaws.{free-lock}
+use Rattle.theory.specs.Locality.{agree-refl, agree-sym, agree-trans, agree-act, free-commute, free-agree}
+use Rattle.theory.specs.LockLaws.{locksOf, meets-free, locks-sym, clash-none, clash-append, held-meets}
 use Rattle.laws.specs.PutBack.{back-clean}
 use Rattle.theory.specs.UndoLaws.{back-noted, noted-local, aside-clean, aside-noted, aside-back}
 use Rattle.theory.specs.Alone.{alone-end}
@@ -22,7 +22,6 @@ laws p right = record {
   Of = Of p;
   May = May p;
   Agree = Agree p;
-  Free = Free p;
   Aside = Aside;
   agree-refl = agree-refl p;
   agree-sym = agree-sym p;
@@ -34,15 +33,17 @@ laws p right = record {
   may-ends = λ m r v e fields ok. may-ends p right m r v e fields;
   turn-local = turn-local p right;
   ok-act = λ m e fields ok may. tt;
-  free-sym = free-sym p;
-  free-commute = free-commute p;
-  free-agree = free-agree p;
-  free-lock = free-lock p;
+  free-commute = λ m n d e fields f. free-commute p m n d e fields (meets-free p m n f);
+  free-agree = λ m n e fields f. free-agree p m n e fields (meets-free p m n f);
+  meets-sym = λ m n. locks-sym p (locksOf p m) (locksOf p n);
+  clash-none = λ m. clash-none p (locksOf p m);
+  clash-lock = λ m n held. clash-append p (locksOf p m) (locksOf p n) held;
+  holds-meets = λ m n held. held-meets p (locksOf p m) (locksOf p n) held;
   back-clean = back-clean;
   back-noted = λ m u e fields ok may. back-noted u e fields;
   noted-local = noted-local p;
   aside-clean = aside-clean;
-  aside-noted = aside-noted p;
+  aside-noted = λ m n u d e fields f. aside-noted p m n u d e fields (meets-free p m n f);
   aside-back = aside-back;
   alone-end = alone-end p;
 }

@@ -2,19 +2,19 @@
 -- the fields as if their transaction ran alone on the course's fields.
 use Prim.Native.Nat.{ℕ, zero, suc, _≤_, _<_}
 use mathlib.Core.Path.{_≡_, refl, sym, ap, _∙_, subst}
-use mathlib.Core.Bool.{false}
+use mathlib.Core.Bool.{true, false}
 use mathlib.Core.Option.{Option, none, some}
 use mathlib.Core.List.{List, [], _∷_, _++_}
-use Rattle.model.specs.Base.{put}
-use Rattle.laws.specs.Basics.{put-cases, All, In, all-at, all-of}
-use Rattle.model.specs.Service.{Service, Transaction, Slot, closed, opened, World, standing, Answered, Sends, Course, fieldsAfter, answerOf, replayed, comparedIn}
+use Rattle.model.specs.Base.{any, put}
+use Rattle.laws.specs.Basics.{put-cases, All, In, all-at, all-of, none-passes, each-fails}
+use Rattle.model.specs.Service.{Service, Transaction, Slot, closed, opened, World, standing, heldBy, Answered, Sends, Course, fieldsAfter, answerOf, replayed, comparedIn}
 use Rattle.twophase.specs.Claims.{Right}
-use Rattle.twophase.specs.Laws.{Part, Laws}
+use Rattle.twophase.specs.Laws.{Part, Free, Laws}
 use Rattle.twophase.specs.Effects.{acts, over, Swap, Apart, pull, push}
 
 module _ (𝓢 : Service) (𝓛 : Laws 𝓢) where
-  open Service 𝓢 using (Fields, Message, Run, Effect, Undo, turn, act, putBack, clash, alone)
-  open Laws 𝓛 using (Ok, Of, May, Agree, Free, Aside, agree-refl, agree-sym, agree-trans, agree-act, turn-local, ok-act, free-sym, free-commute, free-agree, aside-back, aside-clean, back-clean)
+  open Service 𝓢 using (Fields, Message, Run, Effect, Undo, turn, act, putBack, clash, meets, holds, alone)
+  open Laws 𝓛 using (Ok, Of, May, Agree, Aside, agree-refl, agree-sym, agree-trans, agree-act, turn-local, ok-act, meets-sym, clash-none, holds-meets, free-commute, free-agree, aside-back, aside-clean, back-clean)
 
   -- ---- the invariant
 
@@ -24,7 +24,7 @@ module _ (𝓢 : Service) (𝓛 : Laws 𝓢) where
 
   -- No message of one list clashes with one of the other.
   abbrev pub AllFree : List Message → List Message → Type 0
-  AllFree ms ms′ = All (λ m. All (Free m) ms′) ms
+  AllFree ms ms′ = All (λ m. All (Free 𝓢 m) ms′) ms
 
   -- The two agree wherever one of the messages may read.
   abbrev pub AllAgree : List Message → Fields → Fields → Type 0
@@ -50,11 +50,12 @@ module _ (𝓢 : Service) (𝓛 : Laws 𝓢) where
   Activity P ms d s none = Idle P ms d s
   Activity P ms d s (some r) = Busy P ms d s r
 
-  -- An open slot: a message that clashes with no lock is free of all messages granted; its effects leave the noted places alone;
-  -- the notes undo the effects; the answers given are those of the course; and what is known of the running message.
+  -- An open slot: a message clashes with its locks if it clashes with a message granted; the effects of a message that clashes with
+  -- none leave the noted places alone; the notes undo the effects; the answers given are those of the course; and what is known of
+  -- the running message.
   pub record Open (P : Fields) (ms : List Message) (d : List Effect) (y : Transaction 𝓢) (s : Sends 𝓢) : Type 0 where
-    pub held : (m : Message) → clash m (y .locks) ≡ false → All (Free m) ms
-    pub far : (m : Message) → All (Free m) ms → (e : Effect) → May m e → Aside (y .undo) e
+    pub held : (m : Message) → clash m (y .locks) ≡ any (meets m) ms
+    pub far : (m : Message) → All (Free 𝓢 m) ms → (e : Effect) → May m e → Aside (y .undo) e
     pub undoes : putBack (y .undo) (acts act d P) ≡ P
     pub right : (Q : Fields) → AllAgree ms P Q → All Right (comparedIn 𝓢 (s .list) Q)
     pub activity : Activity P ms d s (y .running)
@@ -79,13 +80,17 @@ module _ (𝓢 : Service) (𝓛 : Laws 𝓢) where
 
   -- ---- effects of messages that do not clash
 
+  -- Freedom from clashes is symmetric.
+  pub free-sym : (m m′ : Message) → Free 𝓢 m m′ → Free 𝓢 m′ m
+  free-sym m m′ f = meets-sym m′ m ∙ f
+
   -- A message's effect commutes with effects of messages that do not clash with it.
-  swap-one : (m : Message) (e : Effect) → May m e → (ms : List Message) → All (Free m) ms → (d : List Effect) → Made ms d
+  swap-one : (m : Message) (e : Effect) → May m e → (ms : List Message) → All (Free 𝓢 m) ms → (d : List Effect) → Made ms d
       → (F : Fields) → act e (acts act d F) ≡ acts act d (act e F)
   swap-one m e may ms free [] made F = refl
   swap-one m e may ms free (e′ ∷ d) made F =
       let (m′, i, may′) = made .0 in
-      free-commute m m′ e e′ (acts act d F) (all-at (Free m) ms m′ i free) may may′ ∙ ap (act e′) (swap-one m e may ms free d (made .1) F)
+      free-commute m m′ e e′ (acts act d F) (all-at (Free 𝓢 m) ms m′ i free) may may′ ∙ ap (act e′) (swap-one m e may ms free d (made .1) F)
 
   -- Two lists of such effects commute.
   swap-lists : (ms ms′ : List Message) → AllFree ms ms′ → (d d′ : List Effect) → Made ms d → Made ms′ d′ → Swap act d d′
@@ -93,7 +98,7 @@ module _ (𝓢 : Service) (𝓛 : Laws 𝓢) where
   swap-lists ms ms′ free (e ∷ d) d′ made made′ F =
       let (m, i, may) = made .0 in
       ap (act e) (swap-lists ms ms′ free d d′ (made .1) made′ F)
-      ∙ swap-one m e may ms′ (all-at (λ m. All (Free m) ms′) ms m i free) d′ made′ (acts act d F)
+      ∙ swap-one m e may ms′ (all-at (λ m. All (Free 𝓢 m) ms′) ms m i free) d′ made′ (acts act d F)
 
   -- The effects of any two slots commute.
   pub apart : (messages : ℕ → List Message) (effects : ℕ → List Effect)
@@ -102,12 +107,12 @@ module _ (𝓢 : Service) (𝓛 : Laws 𝓢) where
   apart messages effects free made t k ne = swap-lists (messages t) (messages k) (free t k ne) (effects t) (effects k) (made t) (made k)
 
   -- Putting back commutes with the effects of messages that do not clash.
-  pub back-acts : (ms : List Message) (u : Undo) → ((m : Message) → All (Free m) ms → (e : Effect) → May m e → Aside u e)
+  pub back-acts : (ms : List Message) (u : Undo) → ((m : Message) → All (Free 𝓢 m) ms → (e : Effect) → May m e → Aside u e)
       → (ms′ : List Message) → AllFree ms′ ms → (d : List Effect) → Made ms′ d → (F : Fields) → putBack u (acts act d F) ≡ acts act d (putBack u F)
   back-acts ms u far ms′ free [] made F = refl
   back-acts ms u far ms′ free (e ∷ d) made F =
       let (m, i, may) = made .0 in
-      aside-back u e (acts act d F) (far m (all-at (λ m. All (Free m) ms) ms′ m i free) e may)
+      aside-back u e (acts act d F) (far m (all-at (λ m. All (Free 𝓢 m) ms) ms′ m i free) e may)
       ∙ ap (act e) (back-acts ms u far ms′ free d (made .1) F)
 
   -- Putting back commutes with the effects of all slots.
@@ -123,11 +128,11 @@ module _ (𝓢 : Service) (𝓛 : Laws 𝓢) where
   agree-acts m (e ∷ d) F G a = agree-act m e _ _ (agree-acts m d F G a)
 
   -- A message does not see the effects of messages that do not clash with it.
-  pub agree-made : (m : Message) (ms : List Message) → All (Free m) ms → (d : List Effect) → Made ms d → (F : Fields) → Agree m F (acts act d F)
+  pub agree-made : (m : Message) (ms : List Message) → All (Free 𝓢 m) ms → (d : List Effect) → Made ms d → (F : Fields) → Agree m F (acts act d F)
   agree-made m ms free [] made F = agree-refl m F
   agree-made m ms free (e ∷ d) made F =
       let (m′, i, may) = made .0 in
-      agree-trans m F (acts act d F) _ (agree-made m ms free d (made .1) F) (free-agree m m′ e (acts act d F) (all-at (Free m) ms m′ i free) may)
+      agree-trans m F (acts act d F) _ (agree-made m ms free d (made .1) F) (free-agree m m′ e (acts act d F) (all-at (Free 𝓢 m) ms m′ i free) may)
 
   -- It does not see those of all slots together.
   agree-over : (n : ℕ) (m : Message) (effects : ℕ → List Effect) → ((k : ℕ) (F : Fields) → Agree m F (acts act (effects k) F))
@@ -146,12 +151,12 @@ module _ (𝓢 : Service) (𝓛 : Laws 𝓢) where
   ok-over zero messages effects made F ok = ok
   ok-over (suc n) messages effects made F ok = ok-acts (messages n) (effects n) (made n) _ (ok-over n messages effects made F ok)
 
-  -- Freedom from clashes is symmetric.
+  -- It is symmetric for lists of messages.
   pub all-free-sym : (ms ms′ : List Message) → AllFree ms ms′ → AllFree ms′ ms
-  all-free-sym ms ms′ free = all-of (λ m. All (Free m) ms) ms′ (λ m i. all-of (Free m) ms (back m i))
+  all-free-sym ms ms′ free = all-of (λ m. All (Free 𝓢 m) ms) ms′ (λ m i. all-of (Free 𝓢 m) ms (back m i))
     where
-      back : (m : Message) → In m ms′ → (m′ : Message) → In m′ ms → Free m m′
-      back m i m′ j = free-sym m′ m (all-at (Free m′) ms′ m i (all-at (λ m. All (Free m) ms′) ms m′ j free))
+      back : (m : Message) → In m ms′ → (m′ : Message) → In m′ ms → Free 𝓢 m m′
+      back m i m′ j = free-sym m′ m (all-at (Free 𝓢 m′) ms′ m i (all-at (λ m. All (Free 𝓢 m) ms′) ms m′ j free))
 
   -- An open slot's state holds over other fields of the course that its transaction cannot distinguish and that its notes restore.
   pub over-other : (P P′ : Fields) (ms : List Message) (d : List Effect) (y : Transaction 𝓢) (s : Sends 𝓢) → AllAgree ms P P′
@@ -204,8 +209,8 @@ module _ (𝓢 : Service) (𝓛 : Laws 𝓢) where
       others = put effects t []
 
       -- A message of the slot is free of another slot's messages.
-      pub free-from : (m : Message) → In m (messages t) → (k : ℕ) → (t ≡ k → ⊥) → All (Free m) (messages k)
-      free-from m i k ne = all-at (λ m. All (Free m) (messages k)) (messages t) m i (free t k ne)
+      pub free-from : (m : Message) → In m (messages t) → (k : ℕ) → (t ≡ k → ⊥) → All (Free 𝓢 m) (messages k)
+      free-from m i k ne = all-at (λ m. All (Free 𝓢 m) (messages k)) (messages t) m i (free t k ne)
 
       -- A closed slot's state.
       pub closed-state : w .slots t ≡ closed → (messages t ≡ []) × (effects t ≡ []) × (x .slots t .list ≡ [])
@@ -217,6 +222,7 @@ module _ (𝓢 : Service) (𝓛 : Laws 𝓢) where
 
       -- The state of the transaction that a send to the slot belongs to: a closed slot is as one that a new transaction opened.
       pub standing-state : Open (x .fields) (messages t) (effects t) (standing 𝓢 (w .slots t)) (x .slots t)
+      unfolding any
       standing-state = go (w .slots t) (inv .slot t)
         where
           go : (z : Slot 𝓢) → SlotState (x .fields) (messages t) (effects t) (x .slots t) z
@@ -224,12 +230,19 @@ module _ (𝓢 : Service) (𝓛 : Laws 𝓢) where
           go (opened y) v = v
           go closed v =
               record {
-                held = λ m c. subst (All (Free m)) (sym (v .0)) tt;
+                held = λ m. clash-none m ∙ sym (ap (any (meets m)) (v .0));
                 far = λ m f e may. aside-clean e;
                 undoes = back-clean _ ∙ ap (λ d. acts act d (x .fields)) (v .1);
                 right = λ Q a. subst (λ l. All Right (comparedIn 𝓢 l Q)) (sym (v .2)) tt;
                 activity = record { same = λ Q a. ap (λ d. acts act d Q) (v .1) ∙ ap (λ l. replayed 𝓢 l Q) (sym (v .2)) };
               }
+
+      -- A message that clashes with none of the slot's locks is free of its messages, and the other way round.
+      pub clear-free : (m : Message) → clash m (heldBy 𝓢 (w .slots t)) ≡ false → All (Free 𝓢 m) (messages t)
+      clear-free m c = none-passes (meets m) (messages t) (sym (standing-state .held m) ∙ c)
+
+      pub free-clear : (m : Message) → All (Free 𝓢 m) (messages t) → clash m (heldBy 𝓢 (w .slots t)) ≡ false
+      free-clear m f = standing-state .held m ∙ each-fails (meets m) (messages t) f
 
       -- The slot's effects commute with the others'.
       pub swap-others : (k : ℕ) → Swap act (effects t) (others k)
@@ -271,3 +284,9 @@ module _ (𝓢 : Service) (𝓛 : Laws 𝓢) where
             turn-local m r _ _ of
             (agree-trans m _ _ _ (agree-acts m (effects t) _ _ (agree-sym m _ _ (all-at (λ m. Agree m (x .fields) Q) (messages t) m i a)))
             (agree-sym m _ _ (view m i)))
+
+    -- A message all of whose locks a slot holds clashes with no lock of another slot.
+    pub own-clear : (t : ℕ) (m : Message) → holds m (heldBy 𝓢 (w .slots t)) ≡ true → (k : ℕ) → (k ≡ t → ⊥) → clash m (heldBy 𝓢 (w .slots k)) ≡ false
+    own-clear t m h k ne =
+        free-clear k m (all-of (Free 𝓢 m) (messages k)
+        (λ n i. free-sym n m (holds-meets m n (heldBy 𝓢 (w .slots t)) h (free-clear t n (free-from k n i t ne)))))

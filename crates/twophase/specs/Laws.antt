@@ -2,17 +2,21 @@
 -- which do not clash neither see nor disturb each other.
 use Prim.Native.Nat.{ℕ}
 use mathlib.Core.Path.{_≡_}
-use mathlib.Core.Bool.{false}
+use mathlib.Core.Bool.{true, false, _||_}
 use mathlib.Core.Option.{some}
 use Rattle.model.specs.Service.{goes, ends, Service}
 
 module _ (𝓢 : Service) where
-  open Service 𝓢 using (Fields, Message, Run, Effect, Undo, Locks, begun, turn, act, clean, noted, putBack, lock, clash, alone)
+  open Service 𝓢 using (Fields, Message, Run, Effect, Undo, Locks, begun, turn, act, clean, noted, putBack, unlocked, lock, clash, meets, holds, alone)
 
   -- The message m, run alone on the fields F, reaches the run r and the fields G in some number of steps.
   pub data Part (m : Message) (F : Fields) : Run → Fields → Type 0 where
     start : Part m F (begun m) F
     more : {r : Run} {G : Fields} (r′ : Run) (e : Effect) → Part m F r G → turn r G ≡ goes r′ e → Part m F r′ (act e G)
+
+  -- The messages do not clash.
+  abbrev pub Free : Message → Message → Type 0
+  Free m m′ = meets m m′ ≡ false
 
   -- The relations that the laws are about, and the laws.
   pub record Laws : Type 1 where
@@ -24,8 +28,6 @@ module _ (𝓢 : Service) where
     pub May : Message → Effect → Type 0
     -- the two agree wherever the message may read
     pub Agree : Message → Fields → Fields → Type 0
-    -- the messages do not clash
-    pub Free : Message → Message → Type 0
     -- putting the notes back and the effect do not meet
     pub Aside : Undo → Effect → Type 0
     -- agreement
@@ -40,11 +42,15 @@ module _ (𝓢 : Service) where
     pub may-ends : (m : Message) (r : Run) (v : ℕ) (e : Effect) (F : Fields) → Ok F → Of m r → turn r F ≡ ends v e → May m e
     pub turn-local : (m : Message) (r : Run) (F G : Fields) → Of m r → Agree m F G → turn r F ≡ turn r G
     pub ok-act : (m : Message) (e : Effect) (F : Fields) → Ok F → May m e → Ok (act e F)
-    -- messages that do not clash: their effects commute, neither sees the other's, and it suffices that no lock clashes
-    pub free-sym : (m m′ : Message) → Free m m′ → Free m′ m
+    -- messages that do not clash: their effects commute, and neither sees the other's
     pub free-commute : (m m′ : Message) (e e′ : Effect) (F : Fields) → Free m m′ → May m e → May m′ e′ → act e (act e′ F) ≡ act e′ (act e F)
     pub free-agree : (m m′ : Message) (e′ : Effect) (F : Fields) → Free m m′ → May m′ e′ → Agree m F (act e′ F)
-    pub free-lock : (m m′ : Message) (l : Locks) → clash m (lock m′ l) ≡ false → (clash m l ≡ false) × Free m m′
+    -- locks: clashing is symmetric; a message clashes with the locks of the messages that it clashes with; and a message whose locks
+    -- are among some locks clashes with no message that those locks do not clash with
+    pub meets-sym : (m m′ : Message) → meets m m′ ≡ meets m′ m
+    pub clash-none : (m : Message) → clash m unlocked ≡ false
+    pub clash-lock : (m m′ : Message) (l : Locks) → clash m (lock m′ l) ≡ (meets m m′ || clash m l)
+    pub holds-meets : (m m′ : Message) (l : Locks) → holds m l ≡ true → clash m′ l ≡ false → meets m′ m ≡ false
     -- undo: the notes put back the former values, and leave alone the effects of messages that do not clash
     pub back-clean : (F : Fields) → putBack clean F ≡ F
     pub back-noted : (m : Message) (u : Undo) (e : Effect) (F : Fields) → Ok F → May m e → putBack (noted u e F) (act e F) ≡ putBack u F

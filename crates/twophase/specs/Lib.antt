@@ -1,8 +1,12 @@
 pub mod Claims
+pub mod Order
 pub mod Moves
 pub mod Laws
 pub mod Effects
 pub mod Invariant
 pub mod Preserve
+pub mod Line
+pub mod Waking
 pub mod Theorem
+pub mod Waiting
 pub mod Aborts

@@ -2,73 +2,98 @@
 use Prim.Native.Nat.{ℕ, _≤_, _<_}
 use native.Mathlib.Omega.{arith}
 use mathlib.Core.Path.{_≡_, refl, sym, ap, _∙_, subst}
+use mathlib.Core.Logic.{_⊎_, inl, inr}
 use mathlib.Core.Bool.{Bool, true, false}
 use mathlib.Core.Option.{Option, none, some}
 use lib.Dec.{T, ltb, ltb→lt}
-use Rattle.model.specs.Base.{least}
-use Rattle.model.specs.Service.{Outcome, goes, ends, stops, Service, Call, send, step, commit, abort, Answer, done, going, answer, refuse, held, stopped, Transaction, Slot, closed, opened, World, withSlot, standing, started, inTheWay, granted, sent, undone, after, stepped, onClosed, onOpen, onSlot, slotOf, inRange, call}
+use Rattle.model.specs.Service.{Outcome, goes, ends, stops, Service, Call, send, step, commit, abort, Answer, done, going, answer, refuse, held, stopped, Transaction, Slot, closed, opened, World, standing, heldBy, started, waits, obstacle, joined, arrived, granted, sent, ended, undone, after, stepped, onClosed, onReady, onWaiting, onOpen, onSlot, slotOf, inRange, call}
 
 module _ (𝓢 : Service) where
-  open Service 𝓢 using (Request, Message, Run, Effect, find, turn)
+  open Service 𝓢 using (Request, Message, Run, Effect, find, turn, holds)
 
-  -- A send that is tested for its locks: its slot is one of the eight and runs no message, and the message exists.
+  -- A send that is tested for its locks: its slot is one of the eight, runs no message and does not wait, and the message exists.
   pub record Asks (w : World 𝓢) (s : ℕ) (q : Request) (m : Message) : Type 0 where
     pub below : s < 8
     pub idle : standing 𝓢 (w .slots s) .running ≡ none
+    pub still : (w .slots s ≡ closed) ⊎ (waits 𝓢 (w .line) s ≡ false)
     pub found : find q ≡ some m
 
   -- A step of a running message.
   pub record Runs (w : World 𝓢) (s : ℕ) (y : Transaction 𝓢) (r : Run) : Type 0 where
     pub below : s < 8
     pub is-open : w .slots s ≡ opened y
+    pub still : waits 𝓢 (w .line) s ≡ false
     pub runs : y .running ≡ some r
 
   pub data Move (w : World 𝓢) : Call Request → Answer × World 𝓢 → Type 0 where
     refused : (c : Call Request) (n : ℕ) → 31 ≤ n → Move w c (refuse n, w)
-    clashes : (s : ℕ) (q : Request) (m : Message) (k : ℕ) → Asks w s q m → least (inTheWay 𝓢 w s m) 8 ≡ some k → Move w (send s q) (held k, w)
-    starts : (s : ℕ) (q : Request) (m : Message) → Asks w s q m → least (inTheWay 𝓢 w s m) 8 ≡ none → Move w (send s q) (done, started 𝓢 w s m)
+    joins : (s : ℕ) (q : Request) (m : Message) (k : ℕ) → Asks w s q m → holds m (heldBy 𝓢 (w .slots s)) ≡ false → obstacle 𝓢 w s m ≡ some k
+        → Move w (send s q) (held k, joined 𝓢 w s m)
+    starts : (s : ℕ) (q : Request) (m : Message) → Asks w s q m → (holds m (heldBy 𝓢 (w .slots s)) ≡ true) ⊎ (obstacle 𝓢 w s m ≡ none)
+        → Move w (send s q) (done, started 𝓢 w s m)
     goes-on : (s : ℕ) (y : Transaction 𝓢) (r r′ : Run) (e : Effect) → Runs w s y r → turn r (w .fields) ≡ goes r′ e
         → Move w (step s) (going, after 𝓢 w s y e (some r′))
     replies : (s : ℕ) (y : Transaction 𝓢) (r : Run) (v : ℕ) (e : Effect) → Runs w s y r → turn r (w .fields) ≡ ends v e
         → Move w (step s) (answer v, after 𝓢 w s y e none)
     halts : (s : ℕ) (y : Transaction 𝓢) (r : Run) → Runs w s y r → turn r (w .fields) ≡ stops → Move w (step s) (stopped, undone 𝓢 w s y)
-    commits : (s : ℕ) (y : Transaction 𝓢) → s < 8 → w .slots s ≡ opened y → y .running ≡ none → Move w (commit s) (done, withSlot 𝓢 w s closed)
+    commits : (s : ℕ) (y : Transaction 𝓢) → s < 8 → w .slots s ≡ opened y → waits 𝓢 (w .line) s ≡ false → y .running ≡ none
+        → Move w (commit s) (done, ended 𝓢 w s (w .fields))
     aborts : (s : ℕ) (y : Transaction 𝓢) → s < 8 → w .slots s ≡ opened y → Move w (abort s) (done, undone 𝓢 w s y)
 
   module _ (w : World 𝓢) where
-    by-locks : (s : ℕ) (q : Request) (m : Message) → Asks w s q m → (k : Option ℕ) → least (inTheWay 𝓢 w s m) 8 ≡ k → Move w (send s q) (granted 𝓢 w s m k)
-    by-locks s q m a none e = starts s q m a e
-    by-locks s q m a (some k) e = clashes s q m k a e
+    module _ (s : ℕ) (q : Request) where
+      by-obstacle : (m : Message) → Asks w s q m → holds m (heldBy 𝓢 (w .slots s)) ≡ false → (k : Option ℕ) → obstacle 𝓢 w s m ≡ k
+          → Move w (send s q) (arrived 𝓢 w s m k)
+      by-obstacle m a h none e = starts s q m a (inr e)
+      by-obstacle m a h (some k) e = joins s q m k a h e
 
-    by-name : (s : ℕ) (q : Request) → s < 8 → standing 𝓢 (w .slots s) .running ≡ none → (o : Option Message) → find q ≡ o → Move w (send s q) (sent 𝓢 w s o)
-    by-name s q below idle none f = refused (send s q) 36 (omega arith)
-    by-name s q below idle (some m) f = by-locks s q m (record { below = below; idle = idle; found = f }) (least (inTheWay 𝓢 w s m) 8) refl
+      by-locks : (m : Message) → Asks w s q m → (b : Bool) → holds m (heldBy 𝓢 (w .slots s)) ≡ b → Move w (send s q) (granted 𝓢 w s m b)
+      by-locks m a true e = starts s q m a (inl e)
+      by-locks m a false e = by-obstacle m a e (obstacle 𝓢 w s m) refl
+
+      by-name : s < 8 → standing 𝓢 (w .slots s) .running ≡ none → (w .slots s ≡ closed) ⊎ (waits 𝓢 (w .line) s ≡ false)
+          → (o : Option Message) → find q ≡ o → Move w (send s q) (sent 𝓢 w s o)
+      by-name below idle still none f = refused (send s q) 36 (omega arith)
+      by-name below idle still (some m) f =
+          by-locks m (record { below = below; idle = idle; still = still; found = f }) (holds m (heldBy 𝓢 (w .slots s))) refl
 
     by-turn : (s : ℕ) (y : Transaction 𝓢) (r : Run) → Runs w s y r → (o : Outcome Run Effect) → turn r (w .fields) ≡ o → Move w (step s) (stepped 𝓢 w s y o)
     by-turn s y r a (goes r′ e) v = goes-on s y r r′ e a v
     by-turn s y r a (ends n e) v = replies s y r n e a v
     by-turn s y r a stops v = halts s y r a v
 
-    by-running : (c : Call Request) → slotOf 𝓢 c < 8 → (y : Transaction 𝓢) → w .slots (slotOf 𝓢 c) ≡ opened y
-        → (r : Option Run) → y .running ≡ r → Move w c (onOpen 𝓢 w c y r)
-    by-running (send s q) below y o none n = by-name s q below (ap (λ z. standing 𝓢 z .running) o ∙ n) (find q) refl
-    by-running (send s q) below y o (some r) n = refused (send s q) 34 (omega arith)
-    by-running (step s) below y o none n = refused (step s) 35 (omega arith)
-    by-running (step s) below y o (some r) n = by-turn s y r (record { below = below; is-open = o; runs = n }) (turn r (w .fields)) refl
-    by-running (commit s) below y o none n = commits s y below o n
-    by-running (commit s) below y o (some r) n = refused (commit s) 34 (omega arith)
-    by-running (abort s) below y o none n = aborts s y below o
-    by-running (abort s) below y o (some r) n = aborts s y below o
+    by-running : (c : Call Request) → slotOf 𝓢 c < 8 → (y : Transaction 𝓢) → w .slots (slotOf 𝓢 c) ≡ opened y → waits 𝓢 (w .line) (slotOf 𝓢 c) ≡ false
+        → (r : Option Run) → y .running ≡ r → Move w c (onReady 𝓢 w c y r)
+    by-running (send s q) below y o still none n = by-name s q below (ap (λ z. standing 𝓢 z .running) o ∙ n) (inr still) (find q) refl
+    by-running (send s q) below y o still (some r) n = refused (send s q) 34 (omega arith)
+    by-running (step s) below y o still none n = refused (step s) 35 (omega arith)
+    by-running (step s) below y o still (some r) n =
+        by-turn s y r (record { below = below; is-open = o; still = still; runs = n }) (turn r (w .fields)) refl
+    by-running (commit s) below y o still none n = commits s y below o still n
+    by-running (commit s) below y o still (some r) n = refused (commit s) 34 (omega arith)
+    by-running (abort s) below y o still none n = aborts s y below o
+    by-running (abort s) below y o still (some r) n = aborts s y below o
+
+    by-waiting : (c : Call Request) → slotOf 𝓢 c < 8 → (y : Transaction 𝓢) → w .slots (slotOf 𝓢 c) ≡ opened y → Move w c (onWaiting 𝓢 w y c)
+    by-waiting (send s q) below y o = refused (send s q) 37 (omega arith)
+    by-waiting (step s) below y o = refused (step s) 37 (omega arith)
+    by-waiting (commit s) below y o = refused (commit s) 37 (omega arith)
+    by-waiting (abort s) below y o = aborts s y below o
+
+    by-line : (c : Call Request) → slotOf 𝓢 c < 8 → (y : Transaction 𝓢) → w .slots (slotOf 𝓢 c) ≡ opened y
+        → (b : Bool) → waits 𝓢 (w .line) (slotOf 𝓢 c) ≡ b → Move w c (onOpen 𝓢 w c y b)
+    by-line c below y o true e = by-waiting c below y o
+    by-line c below y o false e = by-running c below y o e (y .running) refl
 
     by-closed : (c : Call Request) → slotOf 𝓢 c < 8 → w .slots (slotOf 𝓢 c) ≡ closed → Move w c (onClosed 𝓢 w c)
-    by-closed (send s q) below o = by-name s q below (ap (λ z. standing 𝓢 z .running) o) (find q) refl
+    by-closed (send s q) below o = by-name s q below (ap (λ z. standing 𝓢 z .running) o) (inl o) (find q) refl
     by-closed (step s) below o = refused (step s) 32 (omega arith)
     by-closed (commit s) below o = refused (commit s) 32 (omega arith)
     by-closed (abort s) below o = refused (abort s) 32 (omega arith)
 
     by-slot : (c : Call Request) → slotOf 𝓢 c < 8 → (z : Slot 𝓢) → w .slots (slotOf 𝓢 c) ≡ z → Move w c (onSlot 𝓢 w c z)
     by-slot c below closed o = by-closed c below o
-    by-slot c below (opened y) o = by-running c below y o (y .running) refl
+    by-slot c below (opened y) o = by-line c below y o (waits 𝓢 (w .line) (slotOf 𝓢 c)) refl
 
     by-range : (c : Call Request) (b : Bool) → ltb (slotOf 𝓢 c) 8 ≡ b → Move w c (inRange 𝓢 w c b)
     by-range c false e = refused c 31 (omega arith)
@@ -101,10 +126,10 @@ module _ (𝓢 : Service) where
 
     pub ends-open : {c : Call Request} {y : Answer × World 𝓢} → Move w c y → Ends c (y .0)
     ends-open (refused c n g) = tt
-    ends-open (clashes s q m k a e) = tt
+    ends-open (joins s q m k a h e) = tt
     ends-open (starts s q m a e) = tt
     ends-open (goes-on s y r r′ e a v) = tt
     ends-open (replies s y r n e a v) = tt
     ends-open (halts s y r a v) = (y, a .is-open, a .below)
-    ends-open (commits s y below o n) = (y, o, below)
+    ends-open (commits s y below o still n) = (y, o, below)
     ends-open (aborts s y below o) = (y, o, below)

@@ -1,22 +1,22 @@
--- Each transition preserves the invariant: the course names a send, a send is granted, a step has its effect, a slot closes.
--- Theorem says which call makes which transition.
+-- Each transition preserves the invariant: the course names a send, a slot opens to wait, a send is granted, a step has its effect,
+-- a slot closes. Theorem says which call makes which transition.
 use Prim.Native.Nat.{ℕ, _≤_, _<_}
 use native.Mathlib.Omega.{arith}
 use mathlib.Core.Path.{_≡_, refl, sym, ap, _∙_, subst}
-use mathlib.Core.Bool.{false}
+use mathlib.Core.Bool.{Bool, false, _||_}
 use mathlib.Core.Option.{Option, none, some}
 use mathlib.Core.List.{List, [], _∷_, _++_}
-use Rattle.model.specs.Base.{put}
+use Rattle.model.specs.Base.{any, put}
 use Rattle.laws.specs.Basics.{put-same, put-other, put-id, put-cases, at-or, below-or, All, In, here, there, all-at, all-of, all-map, all-append}
-use Rattle.model.specs.Service.{Service, goes, ends, Compared, Transaction, Slot, closed, opened, World, withFields, withSlot, standing, starting, started, advanced, heldBy, undone, after, Answered, Sends, Course, noSends, withSends, fieldsAfter, answerOf, replayed, comparedIn, committed, named, addAnswer}
+use Rattle.model.specs.Service.{Service, goes, ends, Compared, Transaction, Slot, closed, opened, World, withSlot, standing, starting, started, advanced, heldBy, closedOver, after, Answered, Sends, Course, noSends, withSends, fieldsAfter, answerOf, replayed, comparedIn, committed, named, addAnswer}
 use Rattle.twophase.specs.Claims.{Right}
-use Rattle.twophase.specs.Laws.{Part, start, more, Laws}
+use Rattle.twophase.specs.Laws.{Part, start, more, Free, Laws}
 use Rattle.twophase.specs.Effects.{acts, over, push, over-more}
-use Rattle.twophase.specs.Invariant.{Made, AllFree, AllAgree, Idle, Busy, Activity, Open, SlotState, Invariant, apart, back-acts, agree-made, ok-acts, all-free-sym, over-other, replayed-more, right-more, all-apart, fields-ok, agree-self, others, free-from, swap-others, closed-state, open-state, standing-state, back-below, split, view, same-turn}
+use Rattle.twophase.specs.Invariant.{Made, AllFree, AllAgree, Idle, Busy, Activity, Open, SlotState, Invariant, apart, back-acts, agree-made, ok-acts, all-free-sym, over-other, replayed-more, right-more, all-apart, fields-ok, agree-self, others, free-from, swap-others, closed-state, open-state, standing-state, clear-free, free-sym, back-below, split, view, same-turn}
 
 module _ (𝓢 : Service) (𝓛 : Laws 𝓢) (w : World 𝓢) (x : Course 𝓢) (inv : Invariant 𝓢 𝓛 w x) (t : ℕ) (below : t < 8) where
-  open Service 𝓢 using (Fields, Message, Run, Effect, begun, turn, act, noted, putBack, lock, clash, alone)
-  open Laws 𝓛 using (Ok, May, Free, of-begun, of-turn, may-goes, may-ends, free-sym, free-lock, back-noted, noted-local, aside-noted, alone-end)
+  open Service 𝓢 using (Fields, Message, Run, Effect, begun, turn, act, putBack, clash, meets, alone)
+  open Laws 𝓛 using (Ok, May, of-begun, of-turn, may-goes, may-ends, clash-lock, back-noted, noted-local, aside-noted, alone-end)
   open Invariant inv using (messages, effects, free, made)
 
   -- The slots from 8 on stay closed.
@@ -53,10 +53,26 @@ module _ (𝓢 : Service) (𝓛 : Laws 𝓢) (w : World 𝓢) (x : Course 𝓢) 
       now (opened y) e v =
           record { held = v .held; far = v .far; undoes = v .undoes; right = v .right; activity = idle (y .running) e (v .activity) }
 
+  -- A slot opens, if it was closed, without a start.
+  pub opened-keeps : Invariant 𝓢 𝓛 (withSlot 𝓢 w t (opened (standing 𝓢 (w .slots t)))) x
+  opened-keeps =
+      record {
+        messages = messages;
+        effects = effects;
+        free = free;
+        made = made;
+        slot = at-or _ t (simp put-same (standing-state 𝓢 𝓛 w x inv t)) (λ k ne. simp (put-other, ne) (inv .slot k));
+        high = still-high _;
+        ok = inv .ok;
+        total = inv .total;
+        good = inv .good;
+      }
+
   -- The latest send, which clashes with no other slot's locks, gets its locks and starts.
   pub started-keeps : standing 𝓢 (w .slots t) .running ≡ none → (m : Message) → x .slots t .latest ≡ some m
       → ((k : ℕ) → (k ≡ t → ⊥) → k < 8 → clash m (heldBy 𝓢 (w .slots k)) ≡ false)
       → Invariant 𝓢 𝓛 (started 𝓢 w t m) x
+  unfolding any
   started-keeps n m l clear =
       record {
         messages = grown;
@@ -87,19 +103,14 @@ module _ (𝓢 : Service) (𝓛 : Laws 𝓢) (w : World 𝓢) (x : Course 𝓢) 
       grown : ℕ → List Message
       grown = put messages t (m ∷ messages t)
 
-      free-of : (k : ℕ) (s : Slot 𝓢) → SlotState 𝓢 𝓛 (x .fields) (messages k) (effects k) (x .slots k) s
-          → clash m (heldBy 𝓢 s) ≡ false → All (Free m) (messages k)
-      free-of k closed v c = subst (All (Free m)) (sym (v .0)) tt
-      free-of k (opened z) v c = v .held m c
-
-      clear-of : (k : ℕ) → (k ≡ t → ⊥) → All (Free m) (messages k)
-      clear-of = below-or (λ k. (k ≡ t → ⊥) → All (Free m) (messages k)) 8
-          (λ k low ne. free-of k (w .slots k) (inv .slot k) (clear k ne low))
-          (λ k far ne. subst (All (Free m)) (sym (closed-state 𝓢 𝓛 w x inv k (inv .high k far) .0)) tt)
+      clear-of : (k : ℕ) → (k ≡ t → ⊥) → All (Free 𝓢 m) (messages k)
+      clear-of = below-or (λ k. (k ≡ t → ⊥) → All (Free 𝓢 m) (messages k)) 8
+          (λ k low ne. clear-free 𝓢 𝓛 w x inv k m (clear k ne low))
+          (λ k far ne. subst (All (Free 𝓢 m)) (sym (closed-state 𝓢 𝓛 w x inv k (inv .high k far) .0)) tt)
 
       now : Open 𝓢 𝓛 (x .fields) (m ∷ messages t) (effects t) (starting 𝓢 y m) (x .slots t)
       now = record {
-        held = λ m′ c. let r = free-lock m′ m (y .locks) c in (r .1, before .held m′ (r .0));
+        held = λ m′. clash-lock m′ m (y .locks) ∙ ap (λ (b : Bool). meets m′ m || b) (before .held m′);
         far = λ m′ f. before .far m′ (f .1);
         undoes = before .undoes;
         right = λ Q a. before .right Q (a .1);
@@ -147,7 +158,7 @@ module _ (𝓢 : Service) (𝓛 : Laws 𝓢) (w : World 𝓢) (x : Course 𝓢) 
         now = record {
           held = before .held;
           far = λ m′ f e′ may′.
-              aside-noted m m′ (y .undo) e e′ (w .fields) (free-sym m′ m (all-at (Free m′) (messages t) m i f)) may may′ (before .far m′ f e′ may′);
+              aside-noted m m′ (y .undo) e e′ (w .fields) (free-sym 𝓢 𝓛 m′ m (all-at (Free 𝓢 m′) (messages t) m i f)) may may′ (before .far m′ f e′ may′);
           undoes = ap (λ u. putBack u (act e (acts act (effects t) (x .fields)))) (noted-local m (y .undo) e _ _ may (view 𝓢 𝓛 w x inv t below m i))
               ∙ back-noted m (y .undo) e _ (ok-acts 𝓢 𝓛 (messages t) (effects t) (made t) _ (inv .ok)) may ∙ before .undoes;
           right = right;
@@ -211,7 +222,7 @@ module _ (𝓢 : Service) (𝓛 : Laws 𝓢) (w : World 𝓢) (x : Course 𝓢) 
     pub shut : (F P : Fields) (l : List Compared) → Ok P → F ≡ over act 8 (others 𝓢 𝓛 w x inv t) P → All Right l
         → ((k : ℕ) → (k ≡ t → ⊥) → (s : Slot 𝓢) → SlotState 𝓢 𝓛 (x .fields) (messages k) (effects k) (x .slots k) s
         → SlotState 𝓢 𝓛 P (messages k) (effects k) (x .slots k) s)
-        → Invariant 𝓢 𝓛 (withSlot 𝓢 (withFields 𝓢 w F) t closed) (record { fields = P; slots = put (x .slots) t (noSends 𝓢); compared = l })
+        → Invariant 𝓢 𝓛 (closedOver 𝓢 w t F) (record { fields = P; slots = put (x .slots) t (noSends 𝓢); compared = l })
     shut F P l ok total good stands =
         record {
           messages = left;
@@ -231,16 +242,16 @@ module _ (𝓢 : Service) (𝓛 : Laws 𝓢) (w : World 𝓢) (x : Course 𝓢) 
         left = put messages t []
 
     -- A slot closes by undoing its transaction.
-    pub undone-keeps : Invariant 𝓢 𝓛 (undone 𝓢 w t y) (withSends 𝓢 x t (noSends 𝓢))
+    pub undone-keeps : Invariant 𝓢 𝓛 (closedOver 𝓢 w t (putBack (y .undo) (w .fields))) (withSends 𝓢 x t (noSends 𝓢))
     undone-keeps =
         shut _ (x .fields) (x .compared) (inv .ok)
         (ap (putBack (y .undo)) (split 𝓢 𝓛 w x inv t below) ∙ back-below 𝓢 𝓛 w x inv t 8 y q) (inv .good) (λ k ne s v. v)
 
     -- A slot closes by committing its transaction: its effects are added to the course's fields, and no other slot can
     -- distinguish them.
-    pub committed-keeps : y .running ≡ none → Invariant 𝓢 𝓛 (withSlot 𝓢 w t closed) (committed 𝓢 x t)
+    pub committed-keeps : y .running ≡ none → Invariant 𝓢 𝓛 (closedOver 𝓢 w t (w .fields)) (committed 𝓢 x t)
     committed-keeps n =
-        subst (λ P. Invariant 𝓢 𝓛 (withSlot 𝓢 w t closed) (record { fields = P; slots = put (x .slots) t (noSends 𝓢); compared = x .compared ++ list })) replay
+        subst (λ P. Invariant 𝓢 𝓛 (closedOver 𝓢 w t (w .fields)) (record { fields = P; slots = put (x .slots) t (noSends 𝓢); compared = x .compared ++ list })) replay
         (shut (w .fields) (acts act (effects t) (x .fields)) (x .compared ++ list)
         (ok-acts 𝓢 𝓛 (messages t) (effects t) (made t) (x .fields) (inv .ok))
         (split 𝓢 𝓛 w x inv t below ∙ push act 8 (effects t) (others 𝓢 𝓛 w x inv t) (x .fields) (swap-others 𝓢 𝓛 w x inv t))

@@ -5,10 +5,12 @@
 //!   benchmark peers TRANSACTIONS BERKELEY SQLITE   the last of the tables alone
 //!   benchmark rehearse       the table of `rehearse` alone
 //!   benchmark tallies        the tables of `add` beside `set` alone
+//!   benchmark line [BERKELEY]   the tables of a line of seven alone
 //!   benchmark profile        makes some of each call once, for callgrind
 //!   benchmark transactions   makes 100 transactions of a send to an object, for callgrind
 
 mod clock;
+mod line;
 mod rehearsal;
 mod tallies;
 mod texts;
@@ -176,6 +178,11 @@ fn main() {
         ["peers", transactions, berkeley, sqlite] => return peers(transactions, berkeley, sqlite),
         ["rehearse"] => return rehearsal::table(),
         ["tallies"] => return tallies::table(),
+        ["line"] => return line::table(),
+        ["line", berkeley] => {
+            line::table();
+            return line::beside(berkeley);
+        }
         _ => {}
     }
     let samples = texts::samples();
@@ -183,10 +190,12 @@ fn main() {
     reading(&samples);
     machine(&samples);
     tallies::table();
+    line::table();
     spread();
     growth();
     rehearsal::table();
     if let [transactions, berkeley, sqlite] = words[..] {
         peers(transactions, berkeley, sqlite);
+        line::beside(berkeley);
     }
 }

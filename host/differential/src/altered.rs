@@ -1,11 +1,12 @@
 //! Calls with a look at all memory after each, also where it is something other than start and the calls left: each call ends, answers
-//! a number of the header or goes on, and alters nothing but its slot's row and the values.
+//! a number of the header or goes on, and alters nothing but its slot's row, the values, and by 40 or by an end the line and the rows of
+//! slots that wait.
 
 use crate::guard::Guarded;
 use crate::library::{answer, target, GUARD};
 use crate::machine::Counts;
 use reference::machine::{Answer, Call};
-use wrapper::layout;
+use wrapper::layout::{self, FIRST_IN_LINE_AT, LINE_AT, ROW_WORDS, TABLE_WORDS, WAITING_AT, WAITING_WORDS};
 use wrapper::machine::{lent, STATE_WORDS};
 
 /// A text, a state and values, with guards, and what each was before the next call.
@@ -89,18 +90,49 @@ impl Memory {
         assert!(self.text.contents() == self.text_before, "{call:?} altered the text");
         let (state, values) = (self.state.contents(), self.values.contents());
         if let Answer::Held(by) = answer {
+            let in_line = self.state_before[FIRST_IN_LINE_AT..STATE_WORDS].contains(&by);
             assert!(by < 8 && by as usize != slot, "{call:?} is held by slot {by}");
-            assert!(state[layout::TABLE_WORDS + by as usize * layout::ROW_WORDS] != 0, "{call:?} is held by slot {by}, which is closed");
+            assert!(in_line || phase(state, by as usize) != 0, "{call:?} is held by slot {by}, which is closed");
+            assert!(phase(state, slot) == 3, "{call:?} is held, and its slot does not wait");
         }
-        if matches!(answer, Answer::Refused(_) | Answer::Held(_)) {
-            assert!(state == self.state_before && values == self.values_before, "{call:?} answered {answer:?} and altered something");
-            return;
-        }
-        let (row, end) = (layout::TABLE_WORDS + slot * layout::ROW_WORDS, layout::TABLE_WORDS + (slot + 1) * layout::ROW_WORDS);
-        assert!(state[..row] == self.state_before[..row] && state[end..] == self.state_before[end..], "{call:?} altered another row");
-        let may_set = matches!(call, Call::Step(_) | Call::Abort(_));
-        assert!(may_set || values == self.values_before, "{call:?} altered a value");
-        self.state_before[row..end].copy_from_slice(&state[row..end]);
+        let refused = matches!(answer, Answer::Refused(_));
+        let may_set = matches!(call, Call::Step(_) | Call::Abort(_)) && !refused;
+        assert!(may_set || values == self.values_before, "{call:?} answered {answer:?} and altered a value");
         self.values_before.copy_from_slice(values);
+        // By parts, of which most are the same.
+        for (from, part) in (0..).step_by(PART).zip(state.chunks(PART)) {
+            let range = from..from + part.len();
+            if self.state_before[range.clone()] == *part {
+                continue;
+            }
+            for place in range.clone().filter(|&place| state[place] != self.state_before[place]) {
+                let may = may_alter(&self.state_before, state, call, answer, slot, place);
+                assert!(!refused && may, "{call:?} answered {answer:?} and altered word {place}");
+            }
+        }
+        self.state_before.copy_from_slice(state);
     }
+}
+
+/// How many words are compared at once.
+const PART: usize = 512;
+
+fn phase(state: &[u32], slot: usize) -> u32 {
+    state[TABLE_WORDS + slot * ROW_WORDS + layout::PHASE_AT]
+}
+
+/// Whether a call that is not refused may alter this word of its slot's row, of the line, or of the row of a slot that waits.
+fn may_alter(before: &[u32], after: &[u32], call: Call, answer: Answer, slot: usize, place: usize) -> bool {
+    let joins = matches!(answer, Answer::Held(_));
+    let ends = matches!((call, answer), (Call::Commit(_) | Call::Abort(_), Answer::Done) | (Call::Step(_), Answer::Stopped));
+    if !(TABLE_WORDS..LINE_AT).contains(&place) {
+        return (LINE_AT..STATE_WORDS).contains(&place) && (joins || ends);
+    }
+    let (of, word) = ((place - TABLE_WORDS) / ROW_WORDS, (place - TABLE_WORDS) % ROW_WORDS);
+    if of == slot {
+        // A send that joins leaves its slot's locks and notes.
+        return !joins || word == layout::PHASE_AT || (WAITING_AT..WAITING_AT + WAITING_WORDS).contains(&word);
+    }
+    // A send that waited starts.
+    ends && phase(before, of) == 3 && phase(after, of) == 2
 }

@@ -4,7 +4,8 @@ use crate::guard::Guarded;
 use crate::machine::{Counts, List, Machine, Note, Slot};
 use generate::Random;
 use reference::machine::{Answer, Target};
-use wrapper::layout::{MARKS_AT, NOTES_AT, PHASE_AT, ROW_WORDS, SET_MARKS_AT, TABLE_WORDS};
+use wrapper::layout::{ARGUMENT_AT, FIRST_IN_LINE_AT, LINE_AT, MARKS_AT, NOTES_AT, PHASE_AT, ROW_WORDS};
+use wrapper::layout::{SET_MARKS_AT, TABLE_WORDS, WAITING_AT, WAITING_WORDS};
 use wrapper::machine::lent::{self, Outcome};
 use wrapper::machine::{NotStarted, Refusal, Sent, Step, STATE_WORDS};
 
@@ -64,22 +65,30 @@ pub fn beside(text: &[u8], values: &[u32], random: &mut Random, make: impl FnOnc
     make(List::new(&library, values, &mut machine), random)
 }
 
-/// What a row says of its slot, on so many values. A closed slot's is all zero.
+/// What a row says of its slot, on so many values. A closed slot's is all zero, and the words of a waiting send are where none waits.
 fn slot(row: &[u32], values: usize) -> Slot {
     let phase = row[PHASE_AT];
     assert!(phase != 0 || row.iter().all(|&word| word == 0), "the row of a closed slot holds something");
+    let waiting = &row[WAITING_AT..][..WAITING_WORDS];
+    assert!(phase == 3 || waiting.iter().all(|&word| word == 0), "the row of a slot that does not wait holds a waiting send");
     let bit = |at: usize, k: usize| row[at + k / 32] >> (k % 32) & 1 == 1;
     let note = |k: usize| if bit(SET_MARKS_AT, k) { Note::Old(row[NOTES_AT + k]) } else { Note::Added(row[NOTES_AT + k]) };
     for k in 0..values {
         assert!(bit(MARKS_AT, k) || note(k) == Note::Added(0), "value {k} has a note and no mark");
     }
-    Slot { phase, notes: (0..values).filter(|&k| bit(MARKS_AT, k)).map(|k| (k, note(k))).collect() }
+    let waits_with = (phase == 3).then_some(waiting[ARGUMENT_AT]);
+    Slot { phase, waits_with, notes: (0..values).filter(|&k| bit(MARKS_AT, k)).map(|k| (k, note(k))).collect() }
 }
 
 impl Machine for Lent {
     fn slots(&self) -> Option<Vec<Slot>> {
         let (rows, values) = (&self.state.contents()[TABLE_WORDS..], self.values.contents().len());
         Some(rows.chunks(ROW_WORDS).take(8).map(|row| slot(row, values)).collect())
+    }
+
+    fn line(&self) -> Option<Vec<u32>> {
+        let state = self.state.contents();
+        Some(state[FIRST_IN_LINE_AT..][..state[LINE_AT] as usize].to_vec())
     }
 
     fn send(&mut self, slot: u32, to: Target, method: u32, argument: u32) -> Answer {
@@ -112,6 +121,7 @@ fn refused(refusal: Refusal) -> Answer {
         Refusal::Running => 34,
         Refusal::NotRunning => 35,
         Refusal::NothingThere => 36,
+        Refusal::Waiting => 37,
     })
 }
 

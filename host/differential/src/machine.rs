@@ -1,11 +1,12 @@
-//! Call lists: a machine beside the second implementation, each call's answer, all fields after it and what is kept of each slot; the
-//! plain course; and after every call what the tablets saw (document 02, Ticket 4).
+//! Call lists: a machine beside the second implementation, each call's answer, all fields after it, what is kept of each slot and of the
+//! line; the plain course; and after every call what the tablets saw (document 02, Ticket 4) and the promises of the line (Ticket 7).
 
 use generate::calls::Caller;
 use generate::Random;
 use reference::course::Course;
 use reference::machine::{Answer, Call, Change, Fields, Target};
 use reference::text::Library;
+use reference::waiting::{Seen, Watch};
 use std::collections::{BTreeMap, HashMap};
 
 /// A machine after its start.
@@ -20,13 +21,18 @@ pub trait Machine {
     fn slots(&self) -> Option<Vec<Slot>> {
         None
     }
+    /// The slots that wait, in the line's order, where that can be looked at.
+    fn line(&self) -> Option<Vec<u32>> {
+        None
+    }
 }
 
-/// What a machine keeps of a slot: its phase (0 closed, 1 open, 2 a message runs), and for each value that its transaction changed, by
-/// its place, what undoing needs.
+/// What a machine keeps of a slot: its phase (0 closed, 1 open, 2 a message runs, 3 a send waits), the waiting send's argument, and for
+/// each value that its transaction changed, by its place, what undoing needs.
 #[derive(Debug, PartialEq)]
 pub struct Slot {
     pub phase: u32,
+    pub waits_with: Option<u32>,
     pub notes: BTreeMap<usize, Note>,
 }
 
@@ -56,6 +62,10 @@ impl Machine for reference::machine::Machine<'_> {
 
     fn fields(&self) -> Vec<u32> {
         self.values()
+    }
+
+    fn line(&self) -> Option<Vec<u32>> {
+        Some(self.line.iter().map(|waiter| waiter.slot).collect())
     }
 }
 
@@ -94,7 +104,8 @@ pub fn make<M: Machine + ?Sized>(machine: &mut M, call: Call) -> Answer {
 }
 
 /// How often each call was answered in which way (`step answer`, `send 40`, and on a closed slot `first send 40`), how often values were
-/// put back, how often so many slots were adding to one field at once (`2 adding`), and what was undone then.
+/// put back, how often so many slots were adding to one field at once (`2 adding`), and what was undone then; how many waited (`3
+/// waiting`) and started by a call (`2 woken`), and what else befell those who wait.
 pub type Counts = BTreeMap<String, u64>;
 
 /// The counts of several lists together.
@@ -137,6 +148,7 @@ pub struct List<'a> {
     names: Vec<Vec<String>>,
     places: HashMap<(usize, String), usize>,
     course: Course<'a>,
+    watch: Watch<'a>,
     made: Vec<(Call, Answer)>,
     fields: Vec<u32>,
     counts: Counts,
@@ -153,7 +165,8 @@ impl<'a> List<'a> {
         let names: Vec<Vec<String>> = library.objects.iter().map(|o| by_class[o.class.as_str()].clone()).collect();
         let fields_of = |(object, names): (usize, &Vec<String>)| names.iter().map(|n| (object, n.clone())).collect::<Vec<_>>();
         let places = names.iter().enumerate().flat_map(fields_of).zip(0..).collect();
-        List { library, machine, second, names, places, course, made: Vec::new(), fields, counts: Counts::new() }
+        let watch = Watch::start(second.clashes.clone());
+        List { library, machine, second, names, places, course, watch, made: Vec::new(), fields, counts: Counts::new() }
     }
 
     /// Fields by object and name as a flat list.
@@ -163,8 +176,11 @@ impl<'a> List<'a> {
 
     /// What the second implementation keeps of each slot.
     fn slots(&self) -> Vec<Slot> {
+        let waits_with = |slot: u32| self.second.line.iter().find(|waiter| waiter.slot == slot).map(|waiter| waiter.message.argument);
+        let phase = |slot: u32| self.second.is_open(slot) as u32 + self.second.is_running(slot) as u32;
         let slot = |slot: u32| Slot {
-            phase: self.second.is_open(slot) as u32 + self.second.is_running(slot) as u32,
+            phase: if self.second.is_waiting(slot) { 3 } else { phase(slot) },
+            waits_with: waits_with(slot),
             notes: self.second.changes(slot).map(|(field, changes)| (self.places[field], note(changes))).collect(),
         };
         (0..8).map(slot).collect()
@@ -186,6 +202,9 @@ impl<'a> List<'a> {
         if let Some(slots) = self.machine.slots() {
             assert_eq!(slots, self.slots(), "what is kept of the slots after {call:?}, which answered {answer:?}");
         }
+        let line = Machine::line(&self.second).expect("the second implementation's line");
+        assert_eq!(self.machine.line().as_ref().unwrap_or(&line), &line, "the line after {call:?}, which answered {answer:?}");
+        self.watch(call, answer, &line);
         self.course.feed(call, answer);
         let put_back = fields != self.fields && !matches!(answer, Answer::Going | Answer::Answer(_));
         self.count(call, first, answer, put_back);
@@ -194,6 +213,27 @@ impl<'a> List<'a> {
         self.fields = fields;
         self.look(call, answer);
         answer
+    }
+
+    /// The promises of the line, and what befell those who wait.
+    fn watch(&mut self, call: Call, answer: Answer, line: &[u32]) {
+        let Seen { broken, woken, passed, withdrawn, excepted, behind_waiters } = self.watch.saw(call, answer, line);
+        assert!(broken.is_empty(), "{call:?}, which answered {answer:?}: {broken:?}");
+        let stopped = answer == Answer::Stopped;
+        for (what, seen) in [
+            (format!("{} waiting", line.len()), !line.is_empty()),
+            (format!("{woken} woken"), woken > 0),
+            ("woken by a stop".into(), stopped && woken > 0),
+            ("woken by a withdrawal".into(), withdrawn && woken > 0),
+            ("woken past a waiter".into(), passed > 0),
+            ("withdrawn".into(), withdrawn),
+            ("ahead on its own locks".into(), excepted),
+            ("behind waiters only".into(), behind_waiters),
+        ] {
+            if seen {
+                self.count_one(what);
+            }
+        }
     }
 
     /// Ticket 4 on both: undoing all open transactions gives the course's fields, and every transaction's answers are those it would

@@ -58,7 +58,8 @@ fn send(slot: u32, target: Target, method: u32) -> Call {
 }
 
 /// Machines in the middle of their work: messages on an object and a domain, one that has its answer, locks, notes of values that were
-/// set, and two slots' notes of one value that they added to.
+/// set, two slots' notes of one value that they added to; and a line, of a send to an object, one to a class and one to a domain, whose
+/// slot has an earlier send.
 fn at_work() -> Vec<Memory> {
     let steps = |slot: u32, n: usize| vec![Call::Step(slot); n];
     let one = [vec![send(0, Target::Domain(0), 0)], steps(0, 9)];
@@ -68,7 +69,12 @@ fn at_work() -> Vec<Memory> {
         vec![send(5, Target::Object(2), PLOT), send(6, Target::Object(1), TALLY), send(3, Target::Object(1), TALLY)],
         [steps(6, 2), steps(3, 1)].concat(),
     ];
-    [one.concat(), two.concat()].iter().map(|calls| {
+    let three = [
+        vec![send(0, Target::Object(1), TUNE), send(4, Target::Object(0), 0)],
+        [steps(0, 2), steps(4, 9)].concat(),
+        vec![send(7, Target::Object(1), TUNE), send(4, Target::Domain(0), 0), send(2, Target::Class(1), TALLY)],
+    ];
+    [one.concat(), two.concat(), three.concat()].iter().map(|calls| {
         let mut memory = Memory::started(TEXT, &VALUES);
         calls.iter().for_each(|&call| {
             memory.call(call);
@@ -141,7 +147,7 @@ fn each_word_of_the_state() {
         });
         all.extend(parts);
     }
-    given(&added_up(all), &["ok", "going", "answer", "24", "32", "34", "35", "36", "40", "41"]);
+    given(&added_up(all), &["ok", "going", "answer", "24", "32", "34", "35", "36", "37", "40", "41"]);
 }
 
 #[test]
@@ -163,7 +169,7 @@ fn each_byte_of_the_text() {
         }
         all.push(memory.counts);
     }
-    given(&added_up(all), &["ok", "going", "answer", "24", "32", "34", "35", "40"]);
+    given(&added_up(all), &["ok", "going", "answer", "24", "32", "34", "35", "37", "40"]);
 }
 
 /// A call on these is refused with this number.
@@ -288,7 +294,7 @@ fn places_out_of_range() {
         memory.put_word(place, word);
         assert_eq!(memory.call(call), Answer::Refused(24), "{call:?} after {calls:?} with word {place} {word}");
     }
-    for phase in [3, 4, u32::MAX] {
+    for phase in [4, 5, u32::MAX] {
         for call in [first, Call::Commit(0), Call::Abort(0), send(0, Target::Object(1), 0)] {
             let mut memory = after(&end);
             memory.put_word(row(layout::PHASE_AT), phase);
@@ -387,6 +393,67 @@ fn locks_of_a_closed_slot() {
     }
 }
 
+/// Slot 0 tunes the first lane, and these slots wait to do so, in this order.
+fn in_line(slots: &[u32]) -> Memory {
+    let mut memory = after(&[send(0, Target::Object(1), TUNE)]);
+    for &slot in slots {
+        assert_eq!(memory.call(send(slot, Target::Object(1), TUNE)), Answer::Held(0));
+    }
+    memory
+}
+
+/// What the words say of the line: the slots that wait.
+fn line(memory: &Memory) -> Vec<u32> {
+    memory.state()[layout::FIRST_IN_LINE_AT..][..memory.state()[layout::LINE_AT] as usize].to_vec()
+}
+
+/// A line that is full has no place for a send that would join, and one that counts more than its places counts as full.
+#[test]
+fn no_place_in_line() {
+    for count in [8, 9, 255, 1 << 31, u32::MAX] {
+        let mut memory = in_line(&[3, 5]);
+        memory.put_word(layout::LINE_AT, count);
+        for target in [Target::Object(1), Target::Class(1), Target::Domain(0)] {
+            assert_eq!(memory.call(send(6, target, 0)), Answer::Refused(24), "{target:?} with {count} in line");
+        }
+        assert_eq!(memory.call(Call::Abort(0)), Answer::Done);
+        assert_eq!(line(&memory), [5], "{count} in line");
+    }
+}
+
+/// A place of the line that names no slot, or one that does not wait: it leaves the line at the next end, and the others start in their
+/// order.
+#[test]
+fn others_in_line() {
+    for word in [1, 0, 8, 31, 1 << 31, u32::MAX] {
+        let mut memory = in_line(&[2, 3, 5]);
+        memory.put_word(layout::FIRST_IN_LINE_AT, word);
+        assert_eq!(memory.call(Call::Abort(0)), Answer::Done);
+        assert_eq!(line(&memory), [5], "place 0 has {word}");
+        assert_eq!(memory.call(Call::Step(3)), Answer::Going);
+        // The one that lost its place waits until it is withdrawn.
+        for call in [Call::Step(2), Call::Commit(2), send(2, Target::Object(0), 0)] {
+            assert_eq!(memory.call(call), Answer::Refused(37), "{call:?}");
+        }
+        assert_eq!(memory.call(Call::Abort(2)), Answer::Done);
+        assert_eq!(memory.call(Call::Commit(2)), Answer::Refused(32));
+    }
+}
+
+/// A slot whose phase alone says that it waits is told 37, and its abort closes it.
+#[test]
+fn waiting_out_of_line() {
+    for calls in [vec![], running(Target::Object(0), 3), running(Target::Domain(0), 9)] {
+        let mut memory = after(&calls);
+        memory.put_word(TABLE_WORDS + layout::PHASE_AT, 3);
+        for call in [Call::Step(0), Call::Commit(0), send(0, Target::Object(1), 0), send(0, Target::Object(9), 0)] {
+            assert_eq!(memory.call(call), Answer::Refused(37), "{call:?} after {calls:?}");
+        }
+        assert_eq!(memory.call(Call::Abort(0)), Answer::Done);
+        assert_eq!(memory.call(Call::Abort(0)), Answer::Refused(32));
+    }
+}
+
 /// A machine on a generated text after some generated calls.
 fn generated(random: &mut Random, text: &[u8], library: &Library, values: &[u32]) -> Memory {
     let mut memory = Memory::started(text, values);
@@ -412,10 +479,11 @@ fn try_calls(random: &mut Random, library: &Library, memory: &mut Memory) {
 /// Some words set to edges or to anything; the words that every call looks at first often stay.
 fn alter(random: &mut Random, memory: &mut Memory) {
     for _ in 0..1 + random.below(40) {
-        let place = match random.below(4) {
+        let place = match random.below(5) {
             0 => random.below(layout::HEAD_WORDS),
             1 => layout::CLASSES_AT + random.below(TABLE_WORDS - layout::CLASSES_AT),
             2 => TABLE_WORDS + random.below(8) * ROW_WORDS + random.below(layout::SPARE_AT),
+            3 => layout::LINE_AT + random.below(layout::LINE_WORDS),
             _ => TABLE_WORDS + random.below(8 * ROW_WORDS),
         };
         let word = memory.state()[place];
@@ -461,7 +529,7 @@ fn generated_machines_altered() {
         }
         memory.counts
     });
-    given(&added_up(counted), &["ok", "going", "answer", "24", "31", "32", "34", "35", "36", "40", "41"]);
+    given(&added_up(counted), &["ok", "going", "answer", "24", "31", "32", "34", "35", "36", "37", "40", "41"]);
 }
 
 /// Texts of one length and one count of values, two by two.
@@ -512,5 +580,5 @@ fn exchanged() {
         }
         all.extend([memory.counts, two.counts]);
     }
-    given(&added_up(all), &["ok", "going", "answer", "24", "31", "32", "34", "35", "36", "40", "41"]);
+    given(&added_up(all), &["ok", "going", "answer", "24", "31", "32", "34", "35", "36", "37", "40", "41"]);
 }

@@ -139,6 +139,9 @@ fn generated_lists() {
     for kind in ["first send 36", "send 31", "send 34", "send 36", "step 31", "step 32", "step 35"] {
         assert!(has(&lists, kind) * 20 >= count, "{kind} is in few lists: {lists:?}");
     }
+    for kind in ["send 37", "step 37", "commit 37", "1 woken", "withdrawn"] {
+        assert!(has(&lists, kind) * 20 >= count, "{kind} is in few lists: {lists:?}");
+    }
     for kind in ["commit 31", "commit 32", "commit 34", "abort 31", "abort 32"] {
         assert!(has(&lists, kind) * 20 >= count, "{kind} is in few lists: {lists:?}");
     }

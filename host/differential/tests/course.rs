@@ -1,4 +1,4 @@
-//! What docs/COURSE.md shows is what the programs print: its three boards, and each of its blocks named `printed` or `tables`, which
+//! What docs/COURSE.md shows is what the programs print: its four boards, and each of its blocks named `printed` or `tables`, which
 //! belong to the blocks named `lib` and `calls` above them.
 
 use differential::rehearsal::{printed, Lib};
@@ -8,6 +8,7 @@ const PAGE: &str = include_str!("../../../docs/COURSE.md");
 const SAMPLE: &str = include_str!("../../../samples/lanes.txt");
 const LEFT: &str = include_str!("../../../samples/left-board.calls");
 const RIGHT: &str = include_str!("../../../samples/right-board.calls");
+const LINE: &str = include_str!("../../../samples/line-board.calls");
 const TALLY: &str = include_str!("../../../samples/tally.txt");
 const TALLY_BOARD: &str = include_str!("../../../samples/tally-board.calls");
 
@@ -44,7 +45,8 @@ fn tables(lib: &str) -> String {
 
 #[test]
 fn boards() {
-    for (cells, tablets, lib, calls) in [(9, 2..4, SAMPLE, LEFT), (9, 5..7, SAMPLE, RIGHT), (8, 2..5, TALLY, TALLY_BOARD)] {
+    let boards = [(9, 2..4, SAMPLE, LEFT), (9, 5..7, SAMPLE, RIGHT), (10, 2..5, SAMPLE, LINE), (8, 2..5, TALLY, TALLY_BOARD)];
+    for (cells, tablets, lib, calls) in boards {
         assert_eq!(board(cells, tablets), (calls.into(), rehearsed(lib, calls)));
     }
     assert!(PAGE.contains(&format!("```lib\n{TALLY}```")), "the page shows another text than samples/tally.txt");
@@ -62,6 +64,23 @@ fn totals() {
         machine.values()[0]
     };
     assert_eq!(TALLY_BOARD.lines().map(total).collect::<Vec<_>>(), shown);
+}
+
+/// The last columns of the line's board are which slots run and wait after each call, and the focus.
+#[test]
+fn line() {
+    let library = reference::read(SAMPLE.as_bytes()).unwrap();
+    let mut second = reference::machine::Machine::start(&library, &library.starting_values()).unwrap();
+    let calls = rows(10).filter(|row| row[1].parse::<u32>().is_ok());
+    let shown: Vec<Vec<String>> = calls.map(|row| row[6..9].iter().map(|cell| cell.to_string()).collect()).collect();
+    let listed = |slots: &mut dyn Iterator<Item = u32>| slots.map(|slot| slot.to_string()).collect::<Vec<_>>().join(", ");
+    let after = |line: &str| {
+        second.call(reference::lines::call(&library, line.as_bytes()).unwrap());
+        let running = listed(&mut (0..8).filter(|&slot| second.is_running(slot)));
+        let waiting = listed(&mut second.line.iter().map(|waiter| waiter.slot));
+        vec![running, waiting, second.values()[2].to_string()]
+    };
+    assert_eq!(LINE.lines().map(after).collect::<Vec<_>>(), shown);
 }
 
 #[test]

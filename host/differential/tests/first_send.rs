@@ -1,5 +1,5 @@
-//! Sends to closed slots (document 02, Ticket 3): a granted one opens its slot, one that gets 36 or 40 leaves it closed and alters
-//! nothing. Memory looks at all words after each call.
+//! Sends to closed slots (document 02, Tickets 3 and 7): a granted one opens its slot, one that gets 40 opens it and waits, one that gets
+//! 36 leaves it closed and alters nothing. Memory looks at all words after each call.
 
 use differential::altered::Memory;
 use differential::library::Lent;
@@ -8,6 +8,7 @@ use differential::{amount, each_seed};
 use generate::calls::{text_to_call, values_for, Caller};
 use generate::Random;
 use reference::machine::{Answer, Call, Target};
+use wrapper::layout;
 
 /// The sample with a second lane.
 fn text() -> Vec<u8> {
@@ -69,7 +70,15 @@ fn nothing_there() {
     assert!(memory.state() == fresh && memory.values() == VALUES, "a refused send altered something");
 }
 
-/// A send is held whatever it names, as often as it is made; its slot stays closed, and holds nobody itself.
+/// Send, step and commit say that the slot waits.
+fn waits(memory: &mut Memory, slot: u32) {
+    for call in [Call::Step(slot), Call::Commit(slot), send(slot, Target::Object(1), PLOT), send(slot, Target::Object(9), SHOT)] {
+        assert_eq!(memory.call(call), Answer::Refused(37), "{call:?}");
+    }
+}
+
+/// A send is held whatever it names. Its slot waits, and others that clash with it are held by it; it starts when the last of those before
+/// it has ended, or is withdrawn and leaves nothing.
 #[test]
 fn held() {
     for call in shots(5) {
@@ -78,20 +87,30 @@ fn held() {
         let before = memory.state().to_vec();
         for _ in 0..3 {
             assert_eq!(memory.call(call), Answer::Held(2), "{call:?}");
+            waits(&mut memory, 5);
+            assert!(memory.values() == VALUES, "{call:?} altered a value");
+            assert_eq!(memory.call(Call::Abort(5)), Answer::Done);
             is_closed(&mut memory, 5);
+            let rows = ..memory.state().len() - layout::LINE_WORDS;
+            assert!(memory.state()[rows] == before[rows], "{call:?} and its abort left something");
+            assert_eq!(memory.state()[layout::LINE_AT], 0, "{call:?} is still in line");
         }
-        assert!(memory.state() == before && memory.values() == VALUES, "{call:?} altered something");
-        assert_eq!(memory.call(send(0, Target::Object(1), TUNE)), Answer::Done, "after {call:?}");
-        for slot in [2, 0] {
-            finish(&mut memory, slot);
-            assert_eq!(memory.call(Call::Commit(slot)), Answer::Done);
-        }
-        assert_eq!(memory.call(call), Answer::Done, "{call:?} after the commits");
-        assert_eq!(memory.call(Call::Step(5)), Answer::Going);
+        assert_eq!(memory.call(call), Answer::Held(2), "{call:?}");
+        // Only a send to one lane leaves the other to others.
+        let beside = matches!(call, Call::Send { target: Target::Object(_), .. });
+        let right = if beside { Answer::Done } else { Answer::Held(5) };
+        assert_eq!(memory.call(send(0, Target::Object(1), TUNE)), right, "after {call:?}");
+        finish(&mut memory, 2);
+        waits(&mut memory, 5);
+        assert_eq!(memory.call(Call::Commit(2)), Answer::Done);
+        assert_eq!(memory.call(Call::Step(5)), Answer::Going, "{call:?} after the commit");
+        finish(&mut memory, 5);
+        assert_eq!(memory.call(Call::Commit(5)), Answer::Done);
+        assert_eq!(memory.call(Call::Step(0)), Answer::Going, "the tune of the other lane");
     }
 }
 
-/// 31 before 36 before 40, and 34 before both on a slot that is open.
+/// 31 before 36 before 40 on a closed slot; on an open one 37 or 34 before 36 and 40.
 #[test]
 fn order_of_the_tests() {
     let mut memory = Memory::started(&text(), &VALUES);
@@ -101,10 +120,16 @@ fn order_of_the_tests() {
     assert_eq!(memory.call(send(2, Target::Domain(RUN), SHOT)), Answer::Done);
     assert_eq!(memory.call(nobody(5)), Answer::Refused(36));
     assert_eq!(memory.call(send(5, Target::Object(0), 3)), Answer::Refused(36));
-    assert_eq!(memory.call(send(5, Target::Object(0), SHOT)), Answer::Held(2));
     assert_eq!(memory.call(send(5, Target::Object(0), PLOT)), Answer::Done);
     assert_eq!(memory.call(nobody(5)), Answer::Refused(34));
     assert_eq!(memory.call(send(5, Target::Object(0), SHOT)), Answer::Refused(34));
+    finish(&mut memory, 5);
+    assert_eq!(memory.call(nobody(5)), Answer::Refused(36));
+    assert_eq!(memory.call(send(5, Target::Object(0), SHOT)), Answer::Held(2));
+    assert_eq!(memory.call(nobody(5)), Answer::Refused(37));
+    waits(&mut memory, 5);
+    assert_eq!(memory.call(send(6, Target::Object(0), SHOT)), Answer::Held(2));
+    waits(&mut memory, 6);
 }
 
 /// A transaction of one send in each slot, to each kind of target; then its slot is closed, and the next send opens it again.
@@ -167,8 +192,8 @@ fn crowded_lists() {
         return;
     }
     let made = |kind: &str| calls.get(kind).copied().unwrap_or(0);
-    assert!(made("first send 40") > made("first send ok"), "few first sends clash: {calls:?}");
-    for kind in ["first send 36", "send ok", "send 40", "step 32", "commit 32", "abort 32"] {
+    assert!(made("first send 40") * 2 > made("first send ok"), "few first sends clash: {calls:?}");
+    for kind in ["first send 36", "send ok", "send 40", "send 37", "step 32", "step 37", "commit 32", "commit 37", "abort 32"] {
         assert!(made(kind) >= count / 2, "{kind} is rare: {calls:?}");
     }
 }

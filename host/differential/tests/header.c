@@ -17,7 +17,7 @@ _Static_assert(CISHMOLAQ_LONGEST_TABLES == LONGEST_TABLES, "the lines'");
 
 static uint32_t state[CISHMOLAQ_STATE_WORDS];
 
-/* Two slots on one object: a clash that leaves a slot closed, a message to its answer, an abort. */
+/* Two slots on one object: a send that waits and is withdrawn, one that waits until the other slot is aborted, and its message. */
 static void machine(void) {
     uint32_t values[2] = {7, 0};
     uint32_t detail = 99;
@@ -36,9 +36,13 @@ static void machine(void) {
     printf("step %u %u: %u %u\n", number, detail, values[0], values[1]);
     number = cishmolaq_send(LENT, 5, 3, 0, 0, 1, &detail);
     printf("send %u %u\n", number, detail);
-    number = cishmolaq_commit(LENT, 5, &detail);
-    printf("commit %u %u\n", number, detail);
-    number = cishmolaq_send(LENT, 5, CISHMOLAQ_CLASS, 0, 1, 1, &detail);
+    for (int twice = 0; twice < 2; twice++) {
+        number = cishmolaq_abort(LENT, 5, &detail);
+        printf("abort %u %u: %u %u\n", number, detail, values[0], values[1]);
+    }
+    number = cishmolaq_send(LENT, 5, 3, 0, 0, 1, &detail);
+    printf("send %u %u\n", number, detail);
+    number = cishmolaq_send(LENT, 5, CISHMOLAQ_CLASS, 0, 0, 1, &detail);
     printf("send %u %u\n", number, detail);
     do {
         number = cishmolaq_step(LENT, 3, &detail);
@@ -46,13 +50,19 @@ static void machine(void) {
     } while (number == 1);
     number = cishmolaq_commit(LENT, 5, &detail);
     printf("commit %u %u\n", number, detail);
-    for (int twice = 0; twice < 2; twice++) {
-        number = cishmolaq_abort(LENT, 3, &detail);
-        printf("abort %u %u: %u %u\n", number, detail, values[0], values[1]);
-    }
+    number = cishmolaq_abort(LENT, 3, &detail);
+    printf("abort %u %u: %u %u\n", number, detail, values[0], values[1]);
+    number = cishmolaq_commit(LENT, 5, &detail);
+    printf("commit %u %u\n", number, detail);
+    do {
+        number = cishmolaq_step(LENT, 5, &detail);
+        printf("step %u %u: %u %u\n", number, detail, values[0], values[1]);
+    } while (number == 1);
+    number = cishmolaq_commit(LENT, 5, &detail);
+    printf("commit %u %u\n", number, detail);
 }
 
-/* Two slots add to one field side by side, a third that reads it clashes; one is aborted, and the other's addition stays. */
+/* Two slots add to one field side by side, a third that reads it waits for both; one is aborted, and the other's addition stays. */
 static void tallies(void) {
     uint32_t values[2] = {7, 1};
     uint32_t detail = 99;
@@ -70,6 +80,8 @@ static void tallies(void) {
     printf("send %u %u\n", number, detail);
     number = cishmolaq_abort(LENT, 0, &detail);
     printf("abort %u %u: %u %u\n", number, detail, values[0], values[1]);
+    number = cishmolaq_step(LENT, 2, &detail);
+    printf("step %u %u: %u %u\n", number, detail, values[0], values[1]);
 }
 
 int main(void) {

@@ -23,21 +23,27 @@ start 0 0
 send 31 0
 send 0 0
 send 40 3
-step 32 0: 7 0
-send 36 0
-commit 32 0
-send 0 0
-step 1 0: 8 0
-step 2 0: 8 0
-commit 34 0
+step 37 0: 7 0
+send 37 0
 abort 0 0: 7 0
 abort 32 0: 7 0
+send 36 0
+send 40 3
+step 1 0: 8 0
+step 2 0: 8 0
+commit 37 0
+abort 0 0: 7 0
+commit 34 0
+step 1 0: 8 0
+step 2 0: 8 0
+commit 0 0
 send 0 0
 send 0 0
 step 1 0: 7 0
 step 1 0: 7 10
 send 40 0
 abort 0 0: 7 11
+step 37 0: 7 11
 ";
 
 fn run(command: &mut Command) -> String {

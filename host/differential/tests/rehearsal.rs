@@ -138,12 +138,16 @@ const ANSWERS: &[(&str, &str)] = &[
     ("send 0 lane1 shot 01", "51"),
     ("commit 0", "34"),
     ("send 3 lane1 tune 5", "40 0"),
-    ("step 3", "32"),
-    ("all 3 lane tune 5", "40 0"),
-    ("commit 3", "32"),
-    ("tree 3 run shot 5", "40 0"),
-    ("send 3 lane1 nobody 5", "36"),
+    ("step 3", "37"),
+    ("all 3 lane tune 5", "37"),
+    ("commit 3", "37"),
+    ("tree 3 nobody shot 5", "37"),
+    ("send 3 lane1 nobody 5", "37"),
+    ("send 3 lane1 nobody 05", "51"),
+    ("abort 3", "ok"),
     ("abort 3", "32"),
+    ("all 4 lane tune 5", "40 0"),
+    ("abort 4", "ok"),
     ("tree 3 run plot 5", "ok"),
     ("send 3 lane1 tune 5", "34"),
     ("step 3", "going"),
@@ -155,8 +159,11 @@ const ANSWERS: &[(&str, &str)] = &[
     ("step 0", "going"),
     ("step 0", "answer 0"),
     ("step 0", "35"),
+    ("send 3 lane1 tune 2", "40 0"),
+    ("send 2 lane1 tune 7", "40 0"),
     ("commit 0", "ok"),
-    ("send 3 lane1 tune 2", "ok"),
+    ("step 2", "37"),
+    ("send 3 lane1 tune 2", "34"),
     ("step 3", "going"),
     ("all 5 run shot 1", "ok"),
     ("step 5", "answer 0"),
@@ -274,7 +281,7 @@ fn every_cut_in_two() {
     // The longest line that is a call, and one that is longer by a digit.
     let long = "tree 4294967295 abcdefghijklmnop abcdefghijklmnop 4294967295";
     let calls = format!("send 0 lane1 shot 40\n\nstep 0\n{long}\n{long}0\nsend 1 lane1 tune 5\nstep 0 \nstep 1\nstep 0");
-    let right = "ok\n51\ngoing\n31\n51\n40 0\n51\n32\n51\nlane1 0 0 0\n";
+    let right = "ok\n51\ngoing\n31\n51\n40 0\n51\n37\n51\nlane1 0 0 0\n";
     each_seed(calls.len() as u64 + 1, |cut| {
         let (front, back) = calls.as_bytes().split_at(cut as usize);
         compare(&printed_in_parts(Lib::Text(SAMPLE), [front, back]), right.as_bytes(), SAMPLE, calls.as_bytes());
@@ -343,7 +350,7 @@ fn generated_lists() {
     if count < 300 {
         return;
     }
-    for word in ["ok", "going", "answer", "31", "32", "34", "35", "36", "40", "41", "51"] {
+    for word in ["ok", "going", "answer", "31", "32", "34", "35", "36", "37", "40", "41", "51"] {
         assert!(answers.get(word).copied().unwrap_or(0) >= count / 2, "{word} is rare: {answers:?}");
     }
 }

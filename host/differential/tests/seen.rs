@@ -25,6 +25,7 @@ enum Fault {
     HeldByTheWrongSlot,
     FirstSendRefused,
     GrantedSendLeavesClosed,
+    HeldSendLeavesClosed,
     RefusedSendOpens,
 }
 
@@ -36,7 +37,7 @@ struct Faulty<'a> {
     /// Steps made, and an answer that is kept back, by slot.
     steps: [u32; 8],
     kept: [Option<Answer>; 8],
-    /// Open because of a send that was not granted.
+    /// Open because of a send that was refused.
     opened: [bool; 8],
 }
 
@@ -52,7 +53,8 @@ impl Machine for Faulty<'_> {
         match (self.fault, answer) {
             (Fault::HeldByTheWrongSlot, Answer::Held(by)) => return Answer::Held((by + 1) % 8),
             (Fault::GrantedSendLeavesClosed, Answer::Done) if first => drop(Machine::abort(&mut self.machine, slot)),
-            (Fault::RefusedSendOpens, answer) if first => self.opened[slot as usize] = answer != Answer::Done,
+            (Fault::HeldSendLeavesClosed, Answer::Held(_)) if first => drop(Machine::abort(&mut self.machine, slot)),
+            (Fault::RefusedSendOpens, answer) if first => self.opened[slot as usize] = answer == Answer::Refused(36),
             _ => {}
         }
         answer
@@ -127,6 +129,7 @@ fn faults_are_seen() {
         Fault::HeldByTheWrongSlot,
         Fault::FirstSendRefused,
         Fault::GrantedSendLeavesClosed,
+        Fault::HeldSendLeavesClosed,
         Fault::RefusedSendOpens,
     ];
     let none = seen(Fault::None);
@@ -135,7 +138,9 @@ fn faults_are_seen() {
     assert_eq!(none, 0, "a difference where there is no fault");
     for (fault, count) in counts {
         println!("{fault:?}: seen in {count} of 60 lists");
-        assert!(count >= 20, "{fault:?} is seen in {count} of 60 lists only");
+        // Few sends name nothing.
+        let least = if fault == Fault::RefusedSendOpens { 4 } else { 20 };
+        assert!(count >= least, "{fault:?} is seen in {count} of 60 lists only");
     }
 }
 

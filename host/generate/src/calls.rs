@@ -1,4 +1,4 @@
-//! Call lists on a library: clashes, stops, aborts and commits are all frequent.
+//! Call lists on a library: clashes, waits, stops, aborts and commits are all frequent.
 
 use crate::text::{text, LARGE, MIDDLE, SMALL};
 use crate::{limits, tally, Random};
@@ -73,6 +73,7 @@ enum Phase {
     Closed,
     Open,
     Running,
+    Waiting,
 }
 
 /// Who makes a list's calls one by one: it is told each answer, and so knows which slots are open.
@@ -84,6 +85,9 @@ pub struct Caller {
     patience: usize,
     /// The targets that it likes, and the methods of each that it likes.
     liked: Vec<(Target, Vec<u32>)>,
+    /// What each slot's transaction has sent, and whether it likes to send that again, to the same target or to another.
+    sent: [Vec<(Target, u32)>; 8],
+    repeats: bool,
 }
 
 fn any_target(random: &mut Random, library: &Library) -> Target {
@@ -128,12 +132,30 @@ impl Caller {
     pub fn new(random: &mut Random, library: &Library) -> Caller {
         let liked = (0..1 + random.below(4)).map(|_| with_all(library, target(random, library))).collect();
         let slots = if random.one_in(4) { 8 } else { 2 + random.below(3) };
-        Caller { phases: [Phase::Closed; 8], slots, patience: 2 + random.below(12), liked }
+        Caller::with(slots, 2 + random.below(12), liked)
+    }
+
+    fn with(slots: usize, patience: usize, liked: Vec<(Target, Vec<u32>)>) -> Caller {
+        Caller { phases: [Phase::Closed; 8], slots, patience, liked, sent: Default::default(), repeats: false }
     }
 
     /// One that uses all slots and likes one target: most of its first sends clash.
     pub fn crowded(random: &mut Random, library: &Library) -> Caller {
-        Caller { phases: [Phase::Closed; 8], slots: 8, patience: 2, liked: vec![with_all(library, target(random, library))] }
+        Caller::with(8, 2, vec![with_all(library, target(random, library))])
+    }
+
+    /// One that uses many slots, likes an object, its class and its domain, and another object, and often repeats a send: lines are
+    /// long, several start at once, and slots go ahead on locks that they hold.
+    pub fn queueing(random: &mut Random, library: &Library) -> Caller {
+        if library.objects.is_empty() {
+            return Caller::new(random, library);
+        }
+        let object = random.below(library.objects.len());
+        let class = library.number_of(&library.objects[object].class) as u32;
+        let other = Target::Object(random.below(library.objects.len()) as u32);
+        let targets = [Target::Object(object as u32), other, Target::Class(class), Target::Domain(class), Target::Domain(0)];
+        let liked = targets.into_iter().map(|target| with_all(library, target)).collect();
+        Caller { repeats: true, ..Caller::with(4 + random.below(5), 2 + random.below(5), liked) }
     }
 
     /// One that likes an object, its class and its domain, and the methods that add to a field: several slots add to one at once. With
@@ -149,24 +171,43 @@ impl Caller {
         let mut liked: Vec<_> = targets.into_iter().map(|target| with_adding(library, target)).collect();
         let slots = if random.one_in(3) { 2 } else { 3 + random.below(6) };
         liked.extend(vec![with_all(library, object); if slots == 2 { 5 } else { 1 }]);
-        Caller { phases: [Phase::Closed; 8], slots, patience: 2 + random.below(4), liked }
+        Caller::with(slots, 2 + random.below(4), liked)
     }
 
     /// Learns what a call was answered.
     pub fn told(&mut self, call: Call, answer: Answer) {
         let (slot, phase) = match (call, answer) {
             (Call::Send { slot, .. }, Answer::Done) => (slot, Phase::Running),
+            (Call::Send { slot, .. }, Answer::Held(_)) => (slot, Phase::Waiting),
+            (Call::Step(s), Answer::Going) => (s, Phase::Running),
             (Call::Step(s), Answer::Answer(_)) => (s, Phase::Open),
             (Call::Commit(s) | Call::Abort(s), Answer::Done) | (Call::Step(s), Answer::Stopped) => (s, Phase::Closed),
-            // On altered memory a slot may be open although nobody opened it.
+            (Call::Send { slot: s, .. } | Call::Step(s) | Call::Commit(s), Answer::Refused(37)) => (s, Phase::Waiting),
             (Call::Send { slot: s, .. } | Call::Commit(s), Answer::Refused(34)) => (s, Phase::Running),
+            // On altered memory a slot may be open although nobody opened it.
             (Call::Step(s), Answer::Refused(35)) => (s, Phase::Open),
             _ => return,
         };
+        if let (Call::Send { target, method, .. }, Answer::Done | Answer::Held(_)) = (call, answer) {
+            self.sent[slot as usize].push((target, method));
+        }
+        if phase == Phase::Closed {
+            self.sent[slot as usize].clear();
+            // Those that waited may have started.
+            self.phases.iter_mut().filter(|phase| **phase == Phase::Waiting).for_each(|phase| *phase = Phase::Running);
+        }
         self.phases[slot as usize] = phase;
     }
 
     fn send(&self, random: &mut Random, library: &Library, slot: u32) -> Call {
+        let sent = &self.sent[slot as usize];
+        if self.repeats && !sent.is_empty() && random.one_in(2) {
+            let (mut target, method) = *random.pick(sent);
+            if random.one_in(2) {
+                target = random.pick(&self.liked).0;
+            }
+            return Call::Send { slot, target, method, argument: random.edge() };
+        }
         let any = random.one_in(3).then(|| with_all(library, target(random, library)));
         let (target, methods) = any.as_ref().unwrap_or_else(|| random.pick(&self.liked));
         let method = methods.get(random.below(methods.len())).copied().unwrap_or(0);
@@ -211,6 +252,14 @@ impl Caller {
             },
             Phase::Running if random.one_in(4) => Call::Abort(slot),
             Phase::Running => Call::Step(slot),
+            Phase::Waiting => match random.below(12) {
+                0 | 1 => Call::Abort(slot),
+                2 => Call::Commit(slot),
+                3 => self.send(random, library, slot),
+                4 => Call::Step(slot),
+                // Rather somebody else.
+                _ => self.next(random, library),
+            },
             Phase::Open => match random.below(8) {
                 0 | 1 => Call::Commit(slot),
                 2 => Call::Abort(slot),

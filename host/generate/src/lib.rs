@@ -3,6 +3,7 @@
 pub mod calls;
 pub mod damage;
 pub mod limits;
+pub mod line;
 pub mod lines;
 pub mod tally;
 pub mod text;

@@ -67,11 +67,12 @@ impl<'a> Course<'a> {
                 self.undone.extend(self.run(s).0);
                 self.lists[s as usize].clear();
             }
-            (Call::Send { slot, target, method, argument }, Answer::Done) => {
+            // A send that joins the line is its slot's latest too (Ticket 7).
+            (Call::Send { slot, target, method, argument }, Answer::Done | Answer::Held(_)) => {
                 self.latest[slot as usize] = message(self.library, target, method, argument);
             }
             (Call::Step(s), Answer::Answer(v)) => {
-                let latest = self.latest[s as usize].clone().expect("a granted send");
+                let latest = self.latest[s as usize].clone().expect("a send");
                 self.lists[s as usize].push((latest, v));
             }
             (Call::Commit(s), Answer::Done) => {

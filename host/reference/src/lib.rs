@@ -10,5 +10,6 @@ pub mod stored;
 pub mod syntax;
 pub mod text;
 pub mod vectors;
+pub mod waiting;
 
 pub use text::{read, Fault, Library};

@@ -1,4 +1,4 @@
-//! The machine: slots, locks, activations, steps, undo.
+//! The machine: slots, locks, the line of waiting sends, activations, steps, undo.
 
 use crate::syntax::{Action, Expression};
 use crate::text::{Library, Method};
@@ -193,13 +193,55 @@ struct Transaction<'a> {
     sum: u32,
 }
 
+/// Which locks of a library clash.
+#[derive(Clone)]
+pub struct Clashes<'a> {
+    pub library: &'a Library,
+    /// The vectors by class and method, shared by copies.
+    vectors: Rc<HashMap<String, HashMap<String, Vec<Mode>>>>,
+}
+
+impl<'a> Clashes<'a> {
+    pub fn of(library: &'a Library) -> Clashes<'a> {
+        let vectors_of = |class: &str| library.methods(class).into_iter().map(|m| (m.clone(), transitive(library, class, &m))).collect();
+        let vectors = library.classes.iter().map(|class| (class.name.clone(), vectors_of(&class.name))).collect();
+        Clashes { library, vectors: Rc::new(vectors) }
+    }
+
+    fn commute(&self, class: &str, a: &str, b: &str) -> bool {
+        let vectors = &self.vectors[class];
+        commute(&vectors[a], &vectors[b])
+    }
+
+    fn clash(&self, a: &Lock, b: &Lock) -> bool {
+        match (a, b) {
+            (Lock::Object(o, m), Lock::Object(p, n)) => o == p && !self.commute(&self.library.objects[*o].class, m, n),
+            (Lock::Class(c, m, all), Lock::Class(d, n, every)) => c == d && (*all || *every) && !self.commute(c, m, n),
+            _ => false,
+        }
+    }
+
+    /// Whether a lock of the message clashes with one of these.
+    pub fn any<'l>(&self, message: &Message, locks: impl IntoIterator<Item = &'l Lock>) -> bool {
+        locks.into_iter().any(|held| message.locks.iter().any(|lock| self.clash(lock, held)))
+    }
+}
+
+/// A send that waits, with its slot.
+#[derive(Clone, Debug, PartialEq)]
+pub struct Waiter {
+    pub slot: u32,
+    pub message: Message,
+}
+
 #[derive(Clone)]
 pub struct Machine<'a> {
     library: &'a Library,
-    /// Shared by copies.
-    vectors: Rc<HashMap<(String, String), Vec<Mode>>>,
+    pub clashes: Clashes<'a>,
     pub fields: Fields,
     slots: Vec<Option<Transaction<'a>>>,
+    /// The waiting sends in order of arrival.
+    pub line: Vec<Waiter>,
 }
 
 /// A flat list of values as fields by object and name.
@@ -250,14 +292,8 @@ impl<'a> Machine<'a> {
         if values.len() != library.starting_values().len() {
             return None;
         }
-        let mut vectors = HashMap::new();
-        for class in &library.classes {
-            for method in library.methods(&class.name) {
-                let vector = transitive(library, &class.name, &method);
-                vectors.insert((class.name.clone(), method), vector);
-            }
-        }
-        Some(Machine { library, vectors: Rc::new(vectors), fields: fields_of(library, values), slots: vec![None; 8] })
+        let fields = fields_of(library, values);
+        Some(Machine { library, clashes: Clashes::of(library), fields, slots: vec![None; 8], line: Vec::new() })
     }
 
     pub fn values(&self) -> Vec<u32> {
@@ -270,6 +306,10 @@ impl<'a> Machine<'a> {
 
     pub fn is_running(&self, slot: u32) -> bool {
         matches!(self.slots.get(slot as usize), Some(Some(transaction)) if transaction.message.is_some())
+    }
+
+    pub fn is_waiting(&self, slot: u32) -> bool {
+        self.line.iter().any(|waiter| waiter.slot == slot)
     }
 
     pub fn idle(&self) -> bool {
@@ -290,17 +330,19 @@ impl<'a> Machine<'a> {
         adding.into_values().max().unwrap_or(0)
     }
 
-    fn commute(&self, class: &str, a: &str, b: &str) -> bool {
-        let vector = |m: &str| &self.vectors[&(class.to_string(), m.to_string())];
-        commute(vector(a), vector(b))
+    /// The slots, other than this one, that a send clashes with: those that hold locks, and of the line those among so many at its front.
+    pub fn in_the_way(&self, slot: u32, message: &Message, ahead: usize) -> Vec<u32> {
+        let holds = |other: u32| self.clashes.any(message, self.slots[other as usize].iter().flat_map(|t| &t.locks));
+        let waits = |other: u32| {
+            self.line[..ahead].iter().any(|waiter| waiter.slot == other && self.clashes.any(message, &waiter.message.locks))
+        };
+        (0..8).filter(|&other| other != slot && (holds(other) || waits(other))).collect()
     }
 
-    fn clash(&self, a: &Lock, b: &Lock) -> bool {
-        match (a, b) {
-            (Lock::Object(o, m), Lock::Object(p, n)) => o == p && !self.commute(&self.library.objects[*o].class, m, n),
-            (Lock::Class(c, m, all), Lock::Class(d, n, every)) => c == d && (*all || *every) && !self.commute(c, m, n),
-            _ => false,
-        }
+    /// The slot's open transaction got every lock of the message by an earlier send.
+    pub fn holds(&self, slot: u32, message: &Message) -> bool {
+        let held = |lock: &Lock| self.slots[slot as usize].iter().any(|t| t.locks.contains(lock));
+        message.locks.iter().all(held)
     }
 
     pub fn call(&mut self, call: Call) -> Answer {
@@ -309,20 +351,24 @@ impl<'a> Machine<'a> {
             return Answer::Refused(31);
         }
         let open = self.is_open(slot);
+        let waiting = self.is_waiting(slot);
         let running = self.is_running(slot);
-        let slot = slot as usize;
         match call {
             Call::Step(_) | Call::Commit(_) | Call::Abort(_) if !open => Answer::Refused(32),
+            Call::Send { .. } | Call::Step(_) | Call::Commit(_) if waiting => Answer::Refused(37),
             Call::Send { .. } | Call::Commit(_) if running => Answer::Refused(34),
             Call::Step(_) if !running => Answer::Refused(35),
             Call::Send { target, method, argument, .. } => self.send(slot, target, method, argument),
-            Call::Step(_) => self.step(slot),
+            Call::Step(_) => self.step(slot as usize),
             Call::Commit(_) => {
-                self.slots[slot] = None;
+                self.slots[slot as usize] = None;
+                self.wake();
                 Answer::Done
             }
             Call::Abort(_) => {
-                self.undo(slot);
+                self.line.retain(|waiter| waiter.slot != slot);
+                self.undo(slot as usize);
+                self.wake();
                 Answer::Done
             }
         }
@@ -342,25 +388,55 @@ impl<'a> Machine<'a> {
         }
     }
 
-    /// A granted send opens its slot where that is closed; one that gets 36 or 40 alters nothing.
-    fn send(&mut self, slot: usize, target: Target, method: u32, argument: u32) -> Answer {
+    /// Goes through the line once from the front: a send starts if it clashes with no lock held and with none that waits ahead of it.
+    fn wake(&mut self) {
+        let mut ahead = 0;
+        while ahead < self.line.len() {
+            let waiter = &self.line[ahead];
+            if self.in_the_way(waiter.slot, &waiter.message, ahead).is_empty() {
+                let Waiter { slot, message } = self.line.remove(ahead);
+                self.begin(slot, message);
+            } else {
+                ahead += 1;
+            }
+        }
+    }
+
+    /// A send opens its slot where that is closed: it starts, or it joins the line and is told the lowest slot that it clashes with. One
+    /// whose locks its slot holds starts whoever waits. 36 alters nothing.
+    fn send(&mut self, slot: u32, target: Target, method: u32, argument: u32) -> Answer {
         let message = match message(self.library, target, method, argument) {
             Some(message) => message,
             None => return Answer::Refused(36),
         };
-        for (other, held) in self.slots.iter().enumerate() {
-            let clashes = |h: &Lock| message.locks.iter().any(|l| self.clash(l, h));
-            if other != slot && held.iter().flat_map(|t| &t.locks).any(clashes) {
-                return Answer::Held(other as u32);
-            }
+        let in_the_way = self.in_the_way(slot, &message, self.line.len());
+        if let (Some(&lowest), false) = (in_the_way.first(), self.holds(slot, &message)) {
+            self.open(slot);
+            self.line.push(Waiter { slot, message });
+            return Answer::Held(lowest);
         }
-        let transaction = self.slots[slot].get_or_insert_with(Transaction::default);
+        self.begin(slot, message);
+        Answer::Done
+    }
+
+    /// The slot's transaction; a closed slot is opened.
+    fn transaction(&mut self, slot: u32) -> &mut Transaction<'a> {
+        self.slots[slot as usize].get_or_insert_with(Transaction::default)
+    }
+
+    /// Opens a slot where it is closed.
+    pub fn open(&mut self, slot: u32) {
+        self.transaction(slot);
+    }
+
+    /// Takes the message's locks and puts it at its start.
+    pub fn begin(&mut self, slot: u32, message: Message) {
+        let transaction = self.transaction(slot);
         transaction.locks.extend(message.locks.iter().cloned());
         transaction.left = message.objects.iter().rev().copied().collect();
         transaction.sum = 0;
         transaction.on = None;
         transaction.message = Some(message);
-        Answer::Done
     }
 
     fn step(&mut self, slot: usize) -> Answer {
@@ -384,6 +460,7 @@ impl<'a> Machine<'a> {
             Step::Going => Answer::Going,
             Step::Stopped => {
                 self.undo(slot);
+                self.wake();
                 Answer::Stopped
             }
             Step::Ended(reply) => {

@@ -37,13 +37,16 @@ pub enum Refusal {
     NotRunning,
     /// 36: no such object, class or method.
     NothingThere,
+    /// 37: the slot's send waits in line.
+    Waiting,
 }
 
 /// A send that is not refused.
 #[derive(Clone, Copy, Debug, PartialEq, Eq)]
 pub enum Sent {
+    /// Its message is at its start.
     Granted,
-    /// 40: this slot, the lowest, holds a lock that clashes.
+    /// 40: it waits in line. This slot is the lowest that it clashes with, one that holds locks or one that waits.
     Held(u32),
 }
 
@@ -68,7 +71,7 @@ pub mod lent {
         Done,
         Going,
         Answer(u32),
-        /// 21, 24, or 31 to 36.
+        /// 21, 24, or 31 to 37.
         Refused(u32),
         /// 40.
         Held(u32),
@@ -120,7 +123,7 @@ pub mod lent {
             let (state, words) = (state.as_mut_ptr(), state.len());
             entries::cishmolaq_send(text.0, text.1, state, words, values.0, values.1, slot, kind, named, method, argument, &mut detail)
         };
-        outcome(number, detail, &[0, 21, 24, 31, 34, 36, 40])
+        outcome(number, detail, &[0, 21, 24, 31, 34, 36, 37, 40])
     }
 
     pub fn step(text: &[u8], state: &mut [u32], values: &mut [u32], slot: u32) -> Outcome {
@@ -128,7 +131,7 @@ pub mod lent {
         let number = unsafe {
             entries::cishmolaq_step(text.0, text.1, state.as_mut_ptr(), state.len(), values.0, values.1, slot, &mut detail)
         };
-        outcome(number, detail, &[1, 2, 21, 24, 31, 32, 35, 41])
+        outcome(number, detail, &[1, 2, 21, 24, 31, 32, 35, 37, 41])
     }
 
     pub fn commit(text: &[u8], state: &mut [u32], values: &[u32], slot: u32) -> Outcome {
@@ -136,7 +139,7 @@ pub mod lent {
         let number = unsafe {
             entries::cishmolaq_commit(text.0, text.1, state.as_mut_ptr(), state.len(), values.0, values.1, slot, &mut detail)
         };
-        outcome(number, detail, &[0, 21, 24, 31, 32, 34])
+        outcome(number, detail, &[0, 21, 24, 31, 32, 34, 37])
     }
 
     pub fn abort(text: &[u8], state: &mut [u32], values: &mut [u32], slot: u32) -> Outcome {
@@ -158,6 +161,7 @@ fn refusal(answer: Outcome) -> Refusal {
         Outcome::Refused(34) => Refusal::Running,
         Outcome::Refused(35) => Refusal::NotRunning,
         Outcome::Refused(36) => Refusal::NothingThere,
+        Outcome::Refused(37) => Refusal::Waiting,
         other => panic!("{other:?} of memory that only the machine altered"),
     }
 }
@@ -189,8 +193,9 @@ impl<'a> Machine<'a> {
         self.values
     }
 
-    /// Sends the method at a place of the target's class. If granted it opens its slot where that is closed; if held it alters
-    /// nothing. Gives `NoSuchSlot`, `Running` or `NothingThere`.
+    /// Sends the method at a place of the target's class, and opens the slot where that is closed. If held, the send waits in line
+    /// until those that it clashes with have ended: then it starts by itself, and the slot's next call is not `Waiting`. Gives
+    /// `NoSuchSlot`, `Waiting`, `Running` or `NothingThere`.
     pub fn send(&mut self, slot: u32, target: Target, method: u32, argument: u32) -> Result<Sent, Refusal> {
         match lent::send(self.text, &mut self.state, self.values, slot, target, method, argument) {
             Outcome::Done => Ok(Sent::Granted),
@@ -199,7 +204,7 @@ impl<'a> Machine<'a> {
         }
     }
 
-    /// Runs one statement of the slot's message, or ends a body. Gives `NoSuchSlot`, `NotOpen` or `NotRunning`.
+    /// Runs one statement of the slot's message, or ends a body. Gives `NoSuchSlot`, `NotOpen`, `Waiting` or `NotRunning`.
     pub fn step(&mut self, slot: u32) -> Result<Step, Refusal> {
         match lent::step(self.text, &mut self.state, self.values, slot) {
             Outcome::Going => Ok(Step::Going),
@@ -209,13 +214,13 @@ impl<'a> Machine<'a> {
         }
     }
 
-    /// Closes the slot and leaves the values. Gives `NoSuchSlot`, `NotOpen` or `Running`.
+    /// Closes the slot, leaves the values, and starts what waits for it. Gives `NoSuchSlot`, `NotOpen`, `Waiting` or `Running`.
     pub fn commit(&mut self, slot: u32) -> Result<(), Refusal> {
         done(lent::commit(self.text, &mut self.state, self.values, slot))
     }
 
-    /// Puts back each value that the transaction set, takes back what it added to others, and closes the slot. Gives `NoSuchSlot` or
-    /// `NotOpen`.
+    /// Puts back each value that the transaction set, takes back what it added to others, withdraws its send where that waits, closes
+    /// the slot, and starts what waits for it. Gives `NoSuchSlot` or `NotOpen`.
     pub fn abort(&mut self, slot: u32) -> Result<(), Refusal> {
         done(lent::abort(self.text, &mut self.state, self.values, slot))
     }

@@ -1,7 +1,7 @@
 -- `abort` meets its contract: the tests in the order of the numbers, then the values are put back and the slot is freed.
 use borrow.Author.Needs.{needs}
 use mathlib.Core.Path.{refl}
-use Rattle.machine_checks.specs.Phases.{within, refused-first, when-closed, when-open, leaves-as}
+use Rattle.machine_checks.specs.Phases.{within, refused-first, when-closed, when-waiting, when-ready, leaves-as}
 use Rattle.machine_calls.proofs.abort.Statement.{statement}
 use Rattle.machine_calls.proofs.abort.Tie as tie
 
@@ -14,18 +14,33 @@ returns-2 c =
     let e = f .before .before in
     leaves-as (when-closed _ _ _ _ _ (e .before .refusal .ensures) (e .if1 .left) _ (f .phase-of .ensures) (c .if2 .taken)) (record { says = refl; words-are = refl; values-are = refl })
 
-roll-back-requires : tie.Need-roll-back-requires
-roll-back-requires c κs =
-    let e = c .before .before .before .before .before in
+roll-back-waiting-requires : tie.Need-roll-back-waiting-requires
+roll-back-waiting-requires c κs =
+    let e = c .before .before .before .before .before .before in
     within _ _ _ _ _ (e .before .refusal .ensures) (e .if1 .left)
 
 returns-3 : tie.Need-returns-3
 returns-3 c =
     let l = c .before .before .before .before in
-    let i = l .before .before .before in
+    let j = l .before .before .before in
+    let f = j .before .before in
+    let e = f .before .before in
+    leaves-as (when-waiting _ _ _ _ _ (e .before .refusal .ensures) (e .if1 .left) _ (f .phase-of .ensures) (j .if3 .taken))
+    (record { says = refl; words-are = l .roll-back-waiting .ensures .0; values-are = l .roll-back-waiting .ensures .1 })
+
+roll-back-requires : tie.Need-roll-back-requires
+roll-back-requires c κs =
+    let e = c .before .before .before .before .before .before in
+    within _ _ _ _ _ (e .before .refusal .ensures) (e .if1 .left)
+
+returns-4 : tie.Need-returns-4
+returns-4 c =
+    let l = c .before .before .before .before in
+    let j = l .before .before .before in
+    let i = j .before in
     let f = i .before in
     let e = f .before .before in
-    leaves-as (when-open _ _ _ _ _ (e .before .refusal .ensures) (e .if1 .left) _ (f .phase-of .ensures) _ refl refl (i .if2 .left))
+    leaves-as (when-ready _ _ _ _ _ (e .before .refusal .ensures) (e .if1 .left) _ (f .phase-of .ensures) _ refl refl (i .if2 .left) (j .if3 .left))
     (record { says = refl; words-are = l .roll-back .ensures .0; values-are = l .roll-back .ensures .1 })
 
 pub abort-spec : {M : Type 1} → statement M
@@ -40,7 +55,11 @@ abort-spec =
     (λ c. search needs)
     (λ c. search needs)
     returns-2
+    roll-back-waiting-requires
+    (λ c. search needs)
+    (λ c. search needs)
+    returns-3
     roll-back-requires
     (λ c. search needs)
     (λ c. search needs)
-    returns-3)
+    returns-4)

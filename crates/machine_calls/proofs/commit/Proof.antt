@@ -1,25 +1,25 @@
 -- `commit` meets its contract: the tests by number, then the slot is freed.
 use borrow.Author.Needs.{needs}
 use mathlib.Core.Path.{refl}
+use Rattle.model.specs.Service.{commit}
 use Rattle.machine_checks.specs.Phases.{idle-refused, idle-within, idle-closed, idle-open, leaves-as}
 use Rattle.machine_calls.proofs.commit.Statement.{statement}
 use Rattle.machine_calls.proofs.commit.Tie as tie
-use Rattle.model.specs.Service.{commit}
 
 returns : tie.Need-returns
-returns c = leaves-as (idle-refused _ _ _ _ _ (c .before .idle-refusal .ensures) refl (c .if1 .taken)) (record { says = refl; words-are = refl; values-are = refl })
+returns c = leaves-as (idle-refused _ _ _ _ _ (c .before .idle-refusal .ensures) refl refl (c .if1 .taken)) (record { says = refl; words-are = refl; values-are = refl })
 
 returns-2 : tie.Need-returns-2
 returns-2 c =
     let f = c .before in
     let e = f .before .before in
-    leaves-as (idle-closed _ _ _ _ _ (e .before .idle-refusal .ensures) refl (e .if1 .left) _ (f .phase-of .ensures) (c .if2 .taken))
+    leaves-as (idle-closed _ _ _ _ _ (e .before .idle-refusal .ensures) refl refl (e .if1 .left) _ (f .phase-of .ensures) (c .if2 .taken))
     (record { says = refl; words-are = refl; values-are = refl })
 
 close-slot-requires : tie.Need-close-slot-requires
 close-slot-requires c κs =
     let e = c .before .before .before .before in
-    idle-within _ _ _ (commit _) _ (e .before .idle-refusal .ensures) refl (e .if1 .left)
+    idle-within _ _ _ (commit _) _ (e .before .idle-refusal .ensures) refl refl (e .if1 .left)
 
 returns-3 : tie.Need-returns-3
 returns-3 c =
@@ -27,7 +27,7 @@ returns-3 c =
     let i = l .before .before in
     let f = i .before in
     let e = f .before .before in
-    leaves-as (idle-open _ _ _ _ _ (e .before .idle-refusal .ensures) refl (e .if1 .left) _ (f .phase-of .ensures) (i .if2 .left))
+    leaves-as (idle-open _ _ _ _ _ (e .before .idle-refusal .ensures) refl refl (e .if1 .left) _ (f .phase-of .ensures) (i .if2 .left))
     (record { says = refl; words-are = l .close-slot .ensures; values-are = refl })
 
 pub commit-spec : {M : Type 1} → statement M

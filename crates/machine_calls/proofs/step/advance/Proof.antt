@@ -6,9 +6,11 @@ use Rattle.machine_calls.proofs.step.advance.Tie as tie
 
 returns : tie.Need-returns
 returns c =
-    let k = c .before .before .before .before .before in
+    let e = c .before .before in
+    let k = e .before .before .before .before .before .before in
     let d = k .before .before .before in
-    stepped _ _ _ _ (d .before .before .before .before .before .before .before .before .pre) (d .decide .result) (d .decide .ensures) (k .carry .result) _ _ (search needs) (k .carry .ensures) _ (c .outcome-of .ensures)
+    stepped _ _ _ _ (d .before .before .before .before .before .before .before .before .pre) (d .decide .result) (d .decide .ensures) (k .carry .result) _ _ (search needs) (k .carry .ensures) _ _
+    (e .end-step .ensures .0) (e .end-step .ensures .1)
 
 pub advance-spec : {M : Type 1} → statement M
 advance-spec =

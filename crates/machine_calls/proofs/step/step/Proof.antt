@@ -1,7 +1,7 @@
 -- `step` meets its contract: the tests in the order of the numbers, then the message's next step.
 use borrow.Author.Needs.{needs}
 use mathlib.Core.Path.{refl}
-use Rattle.machine_checks.specs.Phases.{within, refused-first, when-closed, when-idle, when-running, leaves-as}
+use Rattle.machine_checks.specs.Phases.{within, refused-first, when-closed, when-idle, when-waiting, when-left, leaves-as}
 use Rattle.machine_calls.proofs.step.step.Statement.{statement}
 use Rattle.machine_calls.proofs.step.step.Tie as tie
 
@@ -20,18 +20,26 @@ returns-3 c =
     let e = f .before .before in
     leaves-as (when-idle _ _ _ _ _ (e .before .refusal .ensures) (e .if1 .left) _ (f .phase-of .ensures) (c .if3 .taken)) (record { says = refl; words-are = refl; values-are = refl })
 
-advance-requires : tie.Need-advance-requires
-advance-requires c κs =
-    let e = c .before .before .before .before .before .before in
-    within _ _ _ _ _ (e .before .refusal .ensures) (e .if1 .left)
-
 returns-4 : tie.Need-returns-4
 returns-4 c =
-    let l = c .before .before .before .before in
-    let i = l .before .before .before in
-    let f = i .before .before in
+    let f = c .before .before .before in
     let e = f .before .before in
-    leaves-as (when-running _ _ _ _ _ (e .before .refusal .ensures) (e .if1 .left) _ (f .phase-of .ensures) (i .before .if2 .left) (i .if3 .left)) (l .advance .ensures)
+    leaves-as (when-waiting _ _ _ _ _ (e .before .refusal .ensures) (e .if1 .left) _ (f .phase-of .ensures) (c .if4 .taken)) (record { says = refl; words-are = refl; values-are = refl })
+
+advance-requires : tie.Need-advance-requires
+advance-requires c κs =
+    let e = c .before .before .before .before .before .before .before in
+    within _ _ _ _ _ (e .before .refusal .ensures) (e .if1 .left)
+
+returns-5 : tie.Need-returns-5
+returns-5 c =
+    let l = c .before .before .before .before in
+    let k = l .before .before .before in
+    let j = k .before in
+    let i = j .before in
+    let f = i .before in
+    let e = f .before .before in
+    leaves-as (when-left _ _ _ _ _ (e .before .refusal .ensures) (e .if1 .left) _ (f .phase-of .ensures) (i .if2 .left) (j .if3 .left) (k .if4 .left)) (l .advance .ensures)
 
 pub step-spec : {M : Type 1} → statement M
 step-spec =
@@ -48,7 +56,10 @@ step-spec =
     (λ c. search needs)
     (λ c. search needs)
     returns-3
+    (λ c. search needs)
+    (λ c. search needs)
+    returns-4
     advance-requires
     (λ c. search needs)
     (λ c. search needs)
-    returns-4)
+    returns-5)

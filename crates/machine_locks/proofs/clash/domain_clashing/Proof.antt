@@ -1,20 +1,20 @@
 -- `domain_clashing` meets its contract: each turn adds the bit of a slot that is in the way.
+use borrow.Author.Needs.{needs}
 use mathlib.Core.Path.{_≡_, refl, sym, ap, _∙_}
 use mathlib.Core.Logic.{⊎-elim}
 use Prim.Native.Nat.{_-_, _≤_}
-use borrow.Author.Needs.{needs}
 use native.Mathlib.Omega.{arith}
 use Rattle.machine_locks.specs.Asked.{asked}
-use Rattle.machine_words.specs.Calls.{inTheWay}
+use Rattle.machine_words.specs.Line.{inTheWay}
 use Rattle.machine_locks.specs.Way.{gathered, gather, pass}
 use Rattle.machine_locks.proofs.clash.domain_clashing.Statement.{statement}
 use Rattle.machine_locks.proofs.clash.domain_clashing.Tie as tie
 
 abbrev Inv-loop : tie.InvT-loop
-Inv-loop text state slot wanted mask₀ other₀ mask other = (other ≤ 8) × (mask ≡ gathered (inTheWay text state slot (asked wanted)) other)
+Inv-loop text state ahead slot wanted mask₀ other₀ mask other = (other ≤ 8) × (mask ≡ gathered (inTheWay text state ahead slot (asked wanted)) other)
 
 abbrev μ-loop : tie.MeasureT-loop
-μ-loop text state slot wanted mask₀ other₀ mask other = 8 - other
+μ-loop text state ahead slot wanted mask₀ other₀ mask other = 8 - other
 
 loop-holds : tie.Need-loop-holds Inv-loop μ-loop
 unfolding gathered
@@ -23,14 +23,14 @@ loop-holds c = (omega arith, refl)
 is-in-the-way-requires : tie.Need-is-in-the-way-requires Inv-loop μ-loop
 is-in-the-way-requires c κs =
     let s = c .before .before .before .before in
-    (record { slot = omega arith; long = s .pre .0 .long }, s .pre .1)
+    (record { slot = omega arith; long = s .pre .0 .long }, s .pre .1, s .pre .2)
 
 loop-again : tie.Need-loop-again Inv-loop μ-loop
 loop-again c =
     let t = c .before in
     let l = t .before .before in
     let a = l .before .before .before .args in
-    let p = inTheWay (a .text .now) (a .state .now) (a .slot) (asked (a .wanted)) in
+    let p = inTheWay (a .text .now) (a .state .now) (a .ahead) (a .slot) (asked (a .wanted)) in
     let inv = l .loop .inv in (
       omega arith,
       ⊎-elim
@@ -44,7 +44,7 @@ returns c =
     let l = c .before in
     let a = l .before .before .before .args in
     let e : l .loop .other ≡ 8 = omega arith in
-    l .loop .inv .1 ∙ ap (gathered (inTheWay (a .text .now) (a .state .now) (a .slot) (asked (a .wanted)))) e
+    l .loop .inv .1 ∙ ap (gathered (inTheWay (a .text .now) (a .state .now) (a .ahead) (a .slot) (asked (a .wanted)))) e
 
 pub domain-clashing-spec : {M : Type 1} → statement M
 domain-clashing-spec =

@@ -1,10 +1,11 @@
--- `target_clashing` meets its contract: the slots in the way hold a conflict at the target's word.
+-- `target_clashing` meets its contract: the slots in the way have a conflict at the target's word.
 use borrow.Author.Needs.{needs}
 use Prim.Native.Nat.{ℕ}
 use mathlib.Core.Path.{ap, _∙_}
+use Rattle.machine_words.specs.Line.{blocks}
 use Rattle.machine_locks.specs.Asked.{asked}
 use Rattle.machine_locks.specs.Way.{gathered, besides}
-use Rattle.machine_locks.specs.Holders.{holding, target-in-the-way}
+use Rattle.machine_locks.specs.Holders.{lockTest, target-in-the-way}
 use Rattle.machine_locks.proofs.clash.target_clashing.Statement.{statement}
 use Rattle.machine_locks.proofs.clash.target_clashing.Tie as tie
 
@@ -14,9 +15,9 @@ returns c =
     let t = m .before .before in
     let s = t .before .before .before in
     let a = s .args in
-    c .other-holders .ensures
-    ∙ ap (λ (word : ℕ). gathered (besides (a .slot) (holding (a .state .now) word (a .wanted .class) (m .conflicts .result))) 8) (t .target-word .ensures)
-    ∙ target-in-the-way (a .text .now) (a .state .now) (a .slot) (asked (a .wanted)) _ (m .conflicts .ensures) (s .pre .1)
+    c .others-conflicting .ensures
+    ∙ ap (λ (word : ℕ). gathered (besides (a .slot) (blocks (a .state .now) (a .ahead) (lockTest word (a .wanted .class) (m .conflicts .result)))) 8) (t .target-word .ensures)
+    ∙ target-in-the-way (a .text .now) (a .state .now) (a .ahead) (a .slot) (asked (a .wanted)) _ (m .conflicts .ensures) (s .pre .2)
 
 pub target-clashing-spec : {M : Type 1} → statement M
 target-clashing-spec =

@@ -5,7 +5,7 @@ use mathlib.Core.Path.{sym, ap, _∙_}
 use mathlib.Core.List.{List, _++_}
 use lib.ListN.{drop, replicate}
 use borrow.Author.Tests.{eq-eqb, ne-eqb}
-use Rattle.layout.specs.Layout.{spareAt}
+use Rattle.layout.specs.Layout.{waitingAt}
 use Rattle.machine_words.specs.Row.{freed}
 use Rattle.machine_locks.proofs.release.close.Statement.{statement}
 use Rattle.machine_locks.proofs.release.close.Tie as tie
@@ -24,7 +24,7 @@ returns-2 c =
     let m = h .before .before .before .before in
     let i = m .before .before in
     rw (ne-eqb _ 0 (λ e. i .if1 .left (i .before .get .ensures ∙ e)))
-    (h .clear-first .ensures ∙ ap (λ (l : List ℕ). replicate spareAt 0 ++ drop spareAt l) (m .clear-notes .ensures))
+    (h .clear-first .ensures ∙ ap (λ (l : List ℕ). replicate waitingAt 0 ++ drop waitingAt l) (m .clear-notes .ensures))
 
 pub close-spec : {M : Type 1} → statement M
 close-spec =

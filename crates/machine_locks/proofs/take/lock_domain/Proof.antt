@@ -3,35 +3,37 @@ use borrow.Author.Needs.{needs}
 use mathlib.Core.Path.{_≡_, ap, _∙_}
 use Prim.Native.Nat.{ℕ, _-_, _≤_}
 use native.Mathlib.Omega.{arith}
+use lib.ListN.{take, drop}
+use lib.Seq.{sets}
 use Rattle.machine_locks.specs.Asked.{asked}
-use Rattle.machine_words.specs.Calls.{tablesOf, rowOf, withRow}
-use Rattle.machine_locks.specs.Granted.{lockedBelow, lock-none, lock-more, below-within, below-same}
+use Rattle.machine_words.specs.Line.{tablesOf}
+use Rattle.machine_locks.specs.Granted.{lockedBelow, lock-none, lock-more, below-span, below-same}
 use Rattle.machine_locks.proofs.take.lock_domain.Statement.{statement}
 use Rattle.machine_locks.proofs.take.lock_domain.Tie as tie
 
 abbrev Inv-loop : tie.InvT-loop
-Inv-loop text state₀ slot wanted count class₀ state class =
-    (class ≤ count) × (state ≡ withRow state₀ slot (lockedBelow text (tablesOf state₀) (asked wanted) (rowOf state₀ slot) class))
+Inv-loop text state₀ start size wanted count class₀ state class =
+    (class ≤ count) × (state ≡ sets state₀ start (lockedBelow text (tablesOf state₀) (asked wanted) (take size (drop start state₀)) class))
 
 abbrev μ-loop : tie.MeasureT-loop
-μ-loop text state₀ slot wanted count class₀ state class = count - class
+μ-loop text state₀ start size wanted count class₀ state class = count - class
 
 loop-holds : tie.Need-loop-holds Inv-loop μ-loop
-loop-holds c = (omega arith, lock-none _ _ _ (c .before .before .before .before .before .pre) _)
+loop-holds c = (omega arith, lock-none _ _ _ _ (c .before .before .before .before .before .pre) _)
 
 lock-class-requires : tie.Need-lock-class-requires Inv-loop μ-loop
 lock-class-requires c κs =
     let l = c .before .before in
-    below-within _ _ _ (l .before .before .before .before .before .before .pre) _ _ _ (l .loop .inv .1)
+    below-span _ _ _ _ (l .before .before .before .before .before .before .pre) _ _ _ (l .loop .inv .1)
 
 loop-again : tie.Need-loop-again Inv-loop μ-loop
 loop-again c =
     let k = c .before .before in
     let l = k .before .before .before in
-    (omega arith, lock-more _ _ _ (l .before .before .before .before .before .before .pre) _ _ _ _ (l .loop .inv .1) (k .lock-class .ensures))
+    (omega arith, lock-more _ _ _ _ (l .before .before .before .before .before .before .pre) _ _ _ _ (l .loop .inv .1) (k .lock-class .ensures))
 
 same-length : tie.Need-same-length Inv-loop μ-loop
-same-length c = below-same _ _ _ (c .before .before .before .before .before .before .before .pre) _ _ _ (c .before .loop .inv .1)
+same-length c = below-same _ _ _ _ (c .before .before .before .before .before .before .before .pre) _ _ _ (c .before .loop .inv .1)
 
 returns : tie.Need-returns Inv-loop μ-loop
 returns c =
@@ -39,7 +41,9 @@ returns c =
     let k = l .before in
     let a = k .before .before .before .before .before .args in
     let e : l .loop .class ≡ k .class-count .result = omega arith in
-    l .loop .inv .1 ∙ ap (λ (n : ℕ). withRow (a .state .now) (a .slot) (lockedBelow (a .text .now) (tablesOf (a .state .now)) (asked (a .wanted)) (rowOf (a .state .now) (a .slot)) n)) (e ∙ k .class-count .ensures)
+    l .loop .inv .1
+    ∙ ap (λ (n : ℕ). sets (a .state .now) (a .start) (lockedBelow (a .text .now) (tablesOf (a .state .now)) (asked (a .wanted)) (take (a .size) (drop (a .start) (a .state .now))) n))
+    (e ∙ k .class-count .ensures)
 
 pub lock-domain-spec : {M : Type 1} → statement M
 lock-domain-spec =
