@@ -26,6 +26,8 @@ else
     show left
     show right
     show line
+    cp samples/pair.txt "$folder/lib.txt"
+    show circle
     cp samples/tally.txt "$folder/lib.txt"
     show tally
 fi

@@ -91,7 +91,11 @@ uint32_t cishmolaq_print_tables(const uint8_t *text, size_t text_length, uint8_t
  * front: a waiting send starts if it clashes with no lock that another slot holds and with no send that still waits ahead of it. It
  * then has its locks, and its message is at its start. The call that ended the transaction says nothing of it; the slot that waited
  * learns of it by its next call, which does not get 37. Until then abort is the one call that the slot can make: it withdraws the
- * send and undoes the transaction. Slots that wait for each other wait until one of them is aborted.
+ * send and undoes the transaction.
+ *
+ * A slot waits for another one if its waiting send clashes with a lock that the other holds, or with a send by which the other waits
+ * ahead of it. A send that would close a circle of waits, so that its slot would wait for itself by way of others, is told 42 in place
+ * of joining the line. So whenever some transaction is open, at least one does not wait.
  *
  * Places are numbered from 0: objects and classes in text order, methods in the method order of the object's class or of the named
  * class.
@@ -110,11 +114,12 @@ uint32_t cishmolaq_print_tables(const uint8_t *text, size_t text_length, uint8_t
  *   37  the slot waits (send, step, commit)
  *   40  the send clashes and waits in line; the lowest slot that it clashes with, holder or waiter, is in *detail
  *   41  stopped; the transaction is undone and its slot is closed
+ *   42  the send clashes and would close a circle of waits: it does not wait, and no slot is named (send)
  * *detail is 0 beside any number but 2 and 40. 21 is tested first, then 24 as far as lengths and the mark of a start show it, then
- * 31, 32, 37, 34, 35 and 36 in this order, then what else of 24 the call comes upon, then 40. With 21 to 37 nothing is altered. With
- * 40 the slot is open and waits; the values, all locks and every other slot are as they were. 21 and 24 are given only where a call
- * is lent something other than start and the calls left. On such memory a call gives 24 or goes on by the rules on what it finds; it
- * ends, and touches nothing but what it is lent.
+ * 31, 32, 37, 34, 35 and 36 in this order, then what else of 24 the call comes upon, then 42 and 40. With 21 to 37 and 42 nothing is
+ * altered. With 40 the slot is open and waits; the values, all locks and every other slot are as they were. 21 and 24 are given only
+ * where a call is lent something other than start and the calls left. On such memory a call gives 24 or goes on by the rules on what it
+ * finds; it ends, and touches nothing but what it is lent.
  */
 
 /* The length of a state in words of 32 bits, the same for every text; a longer one is good too, and its rest is left alone. */
@@ -134,9 +139,11 @@ uint32_t cishmolaq_start(const uint8_t *text, size_t text_length, const uint32_t
                          size_t state_words, size_t *line);
 
 /* Sends the method at a place, with an argument, to the target with this kind and number. A granted send has its locks until
- * commit or abort (or 41), and its message is at its start. With 40 it waits in line, and there is no need to send it again. Any kind
- * above 2 names nothing: 36. A closed slot is opened by 0 and by 40, and stays closed with every other number.
- * Answers 0; or 21, 24, 31, 34, 36, 37, 40. */
+ * commit or abort (or 41), and its message is at its start. With 40 it waits in line, and there is no need to send it again. With 42
+ * it is as if it had not been sent; it may be sent again once another slot of the circle has ended, and until the sender has ended those
+ * that wait for it go on waiting. Any kind above 2 names nothing: 36. A closed slot is opened by 0 and by 40, and stays closed with every
+ * other number.
+ * Answers 0; or 21, 24, 31, 34, 36, 37, 40, 42. */
 uint32_t cishmolaq_send(const uint8_t *text, size_t text_length, uint32_t *state, size_t state_words, const uint32_t *values,
                         size_t value_count, uint32_t slot, uint32_t kind, uint32_t number, uint32_t method, uint32_t argument,
                         uint32_t *detail);

@@ -2,6 +2,7 @@
 use Prim.Native.Nat.{ℕ, _≤_}
 use native.Mathlib.Omega.{arith}
 use mathlib.Core.Path.{_≡_, refl, sym, ap, subst, _∙_}
+use mathlib.Core.Logic.{_⊎_, inl, inr, ⊎-elim}
 use mathlib.Core.Bool.{false}
 use mathlib.Core.List.{List}
 use lib.ListN.{length}
@@ -64,10 +65,10 @@ module _ (kind n : ℕ) where
 
 -- ---- numbers
 
--- A refusal's number is one of 21 to 37, so the number alone tells what the call answered.
+-- A refusal's number is one of 21 to 37, or 42, so the number alone tells what the call answered.
 pub refused-apart : {text ws values : List ℕ} {c : Call} {r detail : ℕ} {ws′ values′ : List ℕ} (h : Called text ws values c r detail ws′ values′)
-    → (n : ℕ) → h .outcome ≡ Refused n → (21 ≤ r) × (r ≤ 37)
+    → (n : ℕ) → h .outcome ≡ Refused n → ((21 ≤ r) × (r ≤ 37)) ⊎ (r ≡ 42)
 refused-apart h n e =
     let limits = subst (λ (o : Outcome). Numbered (told o)) e (h .does .number) in
     let is = h .number ∙ ap (λ (o : Outcome). callNumber (told o)) e in
-    (omega (arith, limits .0, is), omega (arith, limits .1, is))
+    ⊎-elim (λ x. inl (omega (arith, x .0, is), omega (arith, x .1, is))) (λ x. inr (is ∙ x)) limits

@@ -25,7 +25,7 @@ use Rattle.model.specs.Undo.{putBack}
 use Rattle.machine_words.specs.Row.{Turn, noteAt, withAct, newAct, stepped, passed, isSet, noteWord, withMark, notedRow, skipRow, callRow, replyRow, backRow, objectRow, freed, carried}
 use Rattle.machine_words.specs.Turn.{decided}
 use Rattle.machine_words.specs.Request.{Wanted, lacking, rowMeets, ownsLocks, locked, First, on, past, nowhere, firstOf, entered}
-use Rattle.machine_words.specs.Line.{waitingIn, withdrawn, countIn, firstInLine, holderAt, waiterAt, inTheWay, obstacle, woken}
+use Rattle.machine_words.specs.Line.{waitingIn, withdrawn, countIn, firstInLine, holderAt, waiterAt, inTheWay, obstacle, closesCircle, woken}
 use Rattle.machine_words.specs.Calls.{After, tablesOf, rowStart, rowOf, phaseOf, withRow, misfitOf, isStarted, refused, wanted, startedOr, joinedAt, joinedOr, arrivedOr, grantedOr, granted, sentTo, sentBy, laid, endedAt, undoneAt, onClosed, onIdle, onRunning, onWaiting, slotIn, byPhase, called}
 use Rattle.machine_words.specs.Spans.{drop-sets}
 use Rattle.machine_words.specs.Rows.{fit-is}
@@ -53,9 +53,9 @@ Holder ws s going = Unit {0}
 Holder ws s (answer v) = Unit {0}
 Holder ws s stopped = Unit {0}
 
--- A refusal's number is one of 21 to 37.
+-- A refusal's number is one of 21 to 37, or 42.
 abbrev pub Numbered : Answer → Type 0
-Numbered (refuse n) = (21 ≤ n) × (n ≤ 37)
+Numbered (refuse n) = ((21 ≤ n) × (n ≤ 37)) ⊎ (n ≡ 42)
 Numbered (held t) = Unit {0}
 Numbered done = Unit {0}
 Numbered going = Unit {0}
@@ -103,7 +103,10 @@ module _ (text ws values : List ℕ) (s : ℕ) where
   Good = Keeps ws values s
 
   refuses : (n : ℕ) → 21 ≤ n → n ≤ 37 → Good (refused ws values n)
-  refuses n g h = record { kept = (refl, refl); past = refl; holder = tt; number = (g, h) }
+  refuses n g h = record { kept = (refl, refl); past = refl; holder = tt; number = inl (g, h) }
+
+  refuses-circle : Good (refused ws values 42)
+  refuses-circle = record { kept = (refl, refl); past = refl; holder = tt; number = inr refl }
 
   module _ (h : Within ws s) where
     row-past : (row : List ℕ) → length row ≡ rowWords → drop stateWords (withRow ws s row) ≡ drop stateWords ws
@@ -143,11 +146,12 @@ module _ (text ws values : List ℕ) (s : ℕ) where
         )
 
     joins-or : (q : Wanted) (t : ℕ) → (t < 8) × (inTheWay text ws (countIn ws) s q t ≡ true) → Good (joinedOr text ws values s q t)
-    joins-or q t found = go (leb 8 (countIn ws)) refl
+    joins-or q t found = go (leb 8 (countIn ws)) refl (closesCircle text ws s q)
       where
-        go : (b : Bool) → leb 8 (countIn ws) ≡ b → Good (cond b (refused ws values 24) (joinedAt text ws values s q t))
-        go true e = refuses 24 (omega arith) (omega arith)
-        go false e =
+        go : (b : Bool) → leb 8 (countIn ws) ≡ b → (c : Bool) → Good (cond b (refused ws values 24) (cond c (refused ws values 42) (joinedAt text ws values s q t)))
+        go true e c = refuses 24 (omega arith) (omega arith)
+        go false e true = refuses-circle
+        go false e false =
             let few = leb-false 8 (countIn ws) e in
             let way = in-the-way q t (found .1) in
             record {
@@ -202,7 +206,7 @@ module _ (text ws values : List ℕ) (s : ℕ) where
 
     steps : (t : Turn) → Good (laid text ws s (carried (rowOf ws s) values t))
     unfolding carried
-    steps Row.misfit = record { kept = (with-own ws s h, refl); past = carried-past Row.misfit; holder = tt; number = (omega arith, omega arith) }
+    steps Row.misfit = record { kept = (with-own ws s h, refl); past = carried-past Row.misfit; holder = tt; number = inl (omega arith, omega arith) }
     steps Row.stop = record { kept = tt; past = woken-row (freed (rowOf ws s)) (freed-long (rowOf ws s) own); holder = tt; number = tt }
     steps Row.skip = record { kept = tt; past = carried-past Row.skip; holder = tt; number = tt }
     steps (Row.assign how k v) = record { kept = tt; past = carried-past (Row.assign how k v); holder = tt; number = tt }

@@ -25,7 +25,7 @@ pub record Does (text ws values : List ℕ) (c : Call) (r : Outcome) (ws′ valu
   pub past : drop stateWords ws′ ≡ drop stateWords ws
   -- 40 names another slot, which is open or in line in the lent words.
   pub holder : Holder ws (slotIn c) (told r)
-  -- A refusal's number is one of 21 to 37.
+  -- A refusal's number is one of 21 to 37, or 42.
   pub number : Numbered (told r)
   -- Demand 2: on what start and the calls left, the words represent a world of the machine, and the answer is the model's ..
   pub says : (p : Program) (w : World (service p)) → Rep text ws values p w → told r ≡ call p w c .0

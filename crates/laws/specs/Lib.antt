@@ -7,3 +7,4 @@ pub mod PutBack
 pub mod Bits
 pub mod Upto
 pub mod Signed
+pub mod Leads

@@ -17,10 +17,10 @@ fn outcome_of(number: u32) -> Outcome
     if number == 0 {
         return Outcome::Done;
     }
-    if number < 40 {
+    if number < 64 {
         return Outcome::Refused(number);
     }
-    Outcome::Held(number - 40)
+    Outcome::Held(number - 64)
 }
 
 // Sends a message: the method at a place of the target's class, with an argument. A granted send opens its slot if that is closed;

@@ -7,7 +7,7 @@ use Rattle.machine_words.specs.Calls.{After}
 use Rattle.machine_checks.specs.declared.Outcome.{Outcome}
 use Rattle.machine_checks.specs.declared.Outcome.the-variants.{Done, Going, Answer, Refused, Held, Stopped}
 
--- Refused: 21 to 37. Held: 40, with the lowest clashing slot. Stopped: 41.
+-- Refused: 21 to 37, or 42. Held: 40, with the lowest clashing slot. Stopped: 41.
 abbrev pub told : Outcome → Model.Answer
 told Done = Model.done
 told Going = Model.going

@@ -3,8 +3,8 @@ ghost use mathlib.Core.Path.{_≡_};
 ghost use Rattle.machine_words.specs.Calls.{rowOf, phaseOf, misfitOf};
 ghost use Rattle.machine_checks.specs.Phases.{firstRefusal, idleRefusal};
 
-// What a call answers: done (a send: granted), going or the message's answer; a number 21 to 37; 40 with the lowest
-// clashing slot; 41.
+// What a call answers: done (a send: granted), going or the message's answer; a number 21 to 37, or 42; 40 with the
+// lowest clashing slot; 41.
 pub enum Outcome {
     Done,
     Going,

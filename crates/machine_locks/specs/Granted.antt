@@ -18,7 +18,7 @@ use Rattle.catalog.specs.View.{classCount, memberAt}
 use Rattle.machine_words.specs.Row.{lockMarked, withBits, objectRow, newAct, withAct}
 use Rattle.catalog.specs.Bodies.{namedAt}
 use Rattle.machine_words.specs.Request.{Wanted, ownsLocks, domainLock, locked, concerns, withLock, placeIn, First, on, past, nowhere, firstOf, namedRow, pastRow, entered}
-use Rattle.machine_words.specs.Line.{tablesOf, rowStart, rowOf, withRow, countIn, inTheWay, obstacle}
+use Rattle.machine_words.specs.Line.{tablesOf, rowStart, rowOf, withRow, countIn, inTheWay, obstacle, closesCircle}
 use Rattle.machine_words.specs.Calls.{refused, startedAt, startedOr, joinedAt, joinedOr, arrivedOr, grantedOr, granted}
 use Rattle.machine_words.specs.Spans.{take-sets, span-length, sets-own, lent-sets, sets-same, sets-sets}
 use Rattle.machine_locks.specs.Locking.{placeBit, domainBit, lockedTarget, object-locked, domain-lock, domain-free, locked-object, locked-class}
@@ -191,12 +191,18 @@ module _ (text ws values : List ℕ) (s : ℕ) (q : Wanted) (mask count : ℕ) (
 
     pub arrives-full : 8 ≤ count → refused ws values 24 ≡ arrivedOr text ws values s q (obstacle text ws (countIn ws) s q)
     arrives-full l =
-        ap (λ (b : Bool). cond b (refused ws values 24) (joinedAt text ws values s q (trailingZeros 32 mask))) (sym (le-leb 8 (countIn ws) (omega (arith, c))))
+        let t : ℕ = trailingZeros 32 mask in
+        ap (λ (b : Bool). cond b (refused ws values 24) (cond (closesCircle text ws s q) (refused ws values 42) (joinedAt text ws values s q t)))
+        (sym (le-leb 8 (countIn ws) (omega (arith, c))))
         ∙ held-up
 
-    pub arrives-last : count < 8 → joinedAt text ws values s q (trailingZeros 32 mask) ≡ arrivedOr text ws values s q (obstacle text ws (countIn ws) s q)
-    arrives-last l =
-        ap (λ (b : Bool). cond b (refused ws values 24) (joinedAt text ws values s q (trailingZeros 32 mask))) (sym (lt-leb 8 (countIn ws) (omega (arith, c))))
+    -- .. with a place left in the line, by whether it closes a circle.
+    pub arrives-last : count < 8 → (b : Bool) → b ≡ closesCircle text ws s q
+        → cond b (refused ws values 42) (joinedAt text ws values s q (trailingZeros 32 mask)) ≡ arrivedOr text ws values s q (obstacle text ws (countIn ws) s q)
+    arrives-last l b r =
+        let t : ℕ = trailingZeros 32 mask in
+        ap₂ (λ (full circle : Bool). cond full (refused ws values 24) (cond circle (refused ws values 42) (joinedAt text ws values s q t)))
+        (sym (lt-leb 8 (countIn ws) (omega (arith, c)))) r
         ∙ held-up
 
 -- By whether the slot holds the send's locks already.

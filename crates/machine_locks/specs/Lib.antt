@@ -4,6 +4,7 @@ pub mod Locking
 pub mod Begun
 pub mod Way
 pub mod Ahead
+pub mod Circle
 pub mod Holders
 pub mod Own
 pub mod Granted

@@ -14,22 +14,22 @@ use Rattle.machine_checks.specs.declared.Outcome.{Outcome}
 use Rattle.machine_checks.specs.declared.Outcome.the-variants.{Done, Refused, Held}
 use Rattle.machine_checks.specs.Told.{told, Leaves}
 
--- 0 where the send is granted; a number below 40 where it is refused; else 40 plus the slot in its way.
+-- 0 where the send is granted; a number below 64 where it is refused; else 64 plus the slot in its way.
 unfoldable pub outcomeOf : ℕ → Outcome
-outcomeOf n = cond (eqb n 0) Done (cond (ltb n 40) (Refused n) (Held (n - 40)))
+outcomeOf n = cond (eqb n 0) Done (cond (ltb n 64) (Refused n) (Held (n - 64)))
 
 module _ (n : ℕ) where
   pub granted-is : n ≡ 0 → Done ≡ outcomeOf n
   unfolding outcomeOf
   granted-is z = rw (eq-eqb n 0 z)
 
-  pub refused-is : (n ≡ 0 → ⊥) → n < 40 → Refused n ≡ outcomeOf n
+  pub refused-is : (n ≡ 0 → ⊥) → n < 64 → Refused n ≡ outcomeOf n
   unfolding outcomeOf
-  refused-is z h = rw (ne-eqb n 0 z, lt-ltb n 40 h)
+  refused-is z h = rw (ne-eqb n 0 z, lt-ltb n 64 h)
 
-  pub held-is : (n ≡ 0 → ⊥) → 40 ≤ n → Held (n - 40) ≡ outcomeOf n
+  pub held-is : (n ≡ 0 → ⊥) → 64 ≤ n → Held (n - 64) ≡ outcomeOf n
   unfolding outcomeOf
-  held-is z h = rw (ne-eqb n 0 z, le-ltb n 40 h)
+  held-is z h = rw (ne-eqb n 0 z, le-ltb n 64 h)
 
 -- ---- what the numbers mean
 
@@ -37,14 +37,14 @@ pub says-done : told (outcomeOf 0) ≡ done
 unfolding outcomeOf
 says-done = refl
 
-pub says-held : (t : ℕ) → told (outcomeOf (40 + t)) ≡ held t
+pub says-held : (t : ℕ) → told (outcomeOf (64 + t)) ≡ held t
 unfolding outcomeOf
 says-held t =
-    let e : 40 + t - 40 ≡ t = omega arith in
-    rw (ne-eqb (40 + t) 0 (λ z. omega arith), le-ltb (40 + t) 40 (omega arith), e)
+    let e : 64 + t - 64 ≡ t = omega arith in
+    rw (ne-eqb (64 + t) 0 (λ z. omega arith), le-ltb (64 + t) 64 (omega arith), e)
 
 -- A refusal leaves all unchanged.
-pub leaves-refused : (ws values : List ℕ) (n : ℕ) → (n ≡ 0 → ⊥) → n < 40 → Leaves (refused ws values n) (outcomeOf n) ws values
+pub leaves-refused : (ws values : List ℕ) (n : ℕ) → (n ≡ 0 → ⊥) → n < 64 → Leaves (refused ws values n) (outcomeOf n) ws values
 leaves-refused ws values n z h = record { says = ap told (sym (refused-is n z h)); words-are = refl; values-are = refl }
 
 -- An equal outcome leaves the same.

@@ -48,11 +48,11 @@ module _ (tables : List ℕ) (c k n : ℕ) (e : n ≡ classCount tables) where
     unfolding methodRefusal
     a-method l = rw (← e, lt-leb n c h, ← q, lt-leb m k l)
 
-pub refusal-lt : (tables : List ℕ) (c k n : ℕ) → n ≡ methodRefusal tables c k → n < 40
+pub refusal-lt : (tables : List ℕ) (c k n : ℕ) → n ≡ methodRefusal tables c k → n < 64
 unfolding methodRefusal
 refusal-lt tables c k n e = go (leb (classCount tables) c) (leb (memberCount tables c 1) k) e
   where
-    go : (a b : Bool) → n ≡ cond a 24 (cond b 36 0) → n < 40
+    go : (a b : Bool) → n ≡ cond a 24 (cond b 36 0) → n < 64
     go true b f = omega arith
     go false true f = omega arith
     go false false f = omega arith

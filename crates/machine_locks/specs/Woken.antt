@@ -64,6 +64,13 @@ module _ (ws : List ℕ) (t : ℕ) where
   unfolding isWaiting
   waiting-slot b e z = ltb-true t 8 (both-left (ltb t 8) (eqb (phaseOf (rowOf ws t)) 3) (sym e ∙ z))
 
+  -- Its waiting send, read from the lent part.
+  pub waiting-send : (q : Wanted) → q ≡ wantedIn (take (rowStart t + waitingAt + waitingWords - (rowStart t + waitingAt)) (drop (rowStart t + waitingAt) ws))
+      → q ≡ wantedIn (waitingIn (rowOf ws t))
+  waiting-send q w =
+      let k : rowStart t + waitingAt + waitingWords - (rowStart t + waitingAt) ≡ waitingWords = omega arith in
+      w ∙ ap (λ (i : ℕ). wantedIn (take i (drop (rowStart t + waitingAt) ws))) k ∙ ap wantedIn (waiting-part ws t)
+
   module _ (text : List ℕ) (n : ℕ) (b : Bool) (e : b ≡ isWaiting ws t) where
     pub leaves-line : b ≡ false → record { waiting = n; words = ws } ≡ wokenSlot text ws n t
     unfolding wokenSlot
@@ -72,11 +79,7 @@ module _ (ws : List ℕ) (t : ℕ) where
     pub wakes-slot : b ≡ true → (q : Wanted) → q ≡ wantedIn (take (rowStart t + waitingAt + waitingWords - (rowStart t + waitingAt)) (drop (rowStart t + waitingAt) ws))
         → wokenOr text ws n t q (obstacle text ws n t q) ≡ wokenSlot text ws n t
     unfolding wokenSlot
-    wakes-slot z q w =
-        let k : rowStart t + waitingAt + waitingWords - (rowStart t + waitingAt) ≡ waitingWords = omega arith in
-        let r : q ≡ wantedIn (waitingIn (rowOf ws t)) =
-        w ∙ ap (λ (i : ℕ). wantedIn (take i (drop (rowStart t + waitingAt) ws))) k ∙ ap wantedIn (waiting-part ws t) in
-        rw (← e, z) (ap (λ (x : Wanted). wokenOr text ws n t x (obstacle text ws n t x)) r)
+    wakes-slot z q w = rw (← e, z) (ap (λ (x : Wanted). wokenOr text ws n t x (obstacle text ws n t x)) (waiting-send q w))
 
 -- The place of a waiting send is one of 32.
 pub few-places : (waiting : List ℕ) (q : Wanted) → q ≡ wantedIn waiting → q .place < 32

@@ -1,6 +1,7 @@
 // Grants a send that has passed its tests, or puts it in the line and names the lowest slot in its way.
 use super::First;
 use super::Wanted;
+use super::circle::closes_circle;
 use super::clash::clashing;
 use super::clash::conflicts;
 use super::clash::held_by_all;
@@ -46,8 +47,8 @@ fn start_send(text: &[u8], state: &mut [u32], slot: u32, wanted: Wanted) -> u32
     0
 }
 
-// Starts a send that needs a new lock, or puts it in the line: then answers 40 plus the lowest slot in its way. Answers 24 where the
-// line has no place for it.
+// Starts a send that needs a new lock, or puts it in the line: then answers 64 plus the lowest slot in its way. Answers 42 where it would
+// close a circle of waits, and 24 where the line has no place for it.
 fn arrive(text: &[u8], state: &mut [u32], slot: u32, wanted: Wanted) -> u32
     requires { ⌜ Within (now state) slot × (wanted .place < 32) ⌝ }
     ensures { λ r. ⌜ ((values : List ℕ) → Leaves (arrivedOr (now (text .entry)) (now (state .entry)) values slot (asked wanted)
@@ -59,8 +60,11 @@ fn arrive(text: &[u8], state: &mut [u32], slot: u32, wanted: Wanted) -> u32
         return start_send(text, state, slot, wanted);
     }
     if count < layout::SLOTS {
+        if closes_circle(text, state, count, slot, wanted) {
+            return 42;
+        }
         join(text, state, count, slot, wanted);
-        return 40 + u32::trailing_zeros(mask);
+        return 64 + u32::trailing_zeros(mask);
     }
     24
 }

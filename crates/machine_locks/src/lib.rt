@@ -1,6 +1,7 @@
-// The lock manager: what is in the way of a send, the locks that it takes, the start of its message, the line of those who wait and
-// their waking, and the release of a transaction's locks. docs/LOCKS.md explains it; the rules are in
+// The lock manager: what is in the way of a send, the locks that it takes, the start of its message, the line of those who wait,
+// circles of waits, the waking of the line, and the release of a transaction's locks. docs/LOCKS.md explains it; the rules are in
 // crates/machine_words/specs/Request.antt and Line.antt.
+mod circle;
 mod clash;
 mod grant;
 pub mod line;

@@ -161,7 +161,7 @@ fn send_class(
     send_to(text, state, slot, kind, class, class, place, argument)
 }
 
-// Sends by the target. Answers 0 where the send is granted; 24 or 36; or 40 plus the slot in its way. The answer is not yet an
+// Sends by the target. Answers 0 where the send is granted; 24, 36 or 42; or 64 plus the slot in its way. The answer is not yet an
 // outcome, so that it stays in a register; the rarer targets get parts of what is lent, as in `grant_object`.
 pub fn request(
     text: &[u8],

@@ -22,6 +22,7 @@ pub mod State
 pub mod Obstacles
 pub mod Begins
 pub mod Waking
+pub mod Circles
 pub mod Joins
 pub mod Transitions
 pub mod Sends

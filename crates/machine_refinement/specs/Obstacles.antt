@@ -124,9 +124,12 @@ module _ (text ws values : List ℕ) (p : Program) (w : World (service p)) {n : 
                 both test r (meets v) (any (λ v. eqb (v .slot) u && meets v) vs) (same-test v (from v (List·Memᴰ·head refl)) (eqb-true (v .slot) u e)) rest
             go false e r rest = rest
 
-    -- The lowest slot in the way is the model's.
+    -- A slot in the way is one in the model.
+    pub way-is : (s u : ℕ) → u < 8 → inTheWay text ws n s q u ≡ Told.inTheWay (service p) (w .slots) (w .line) s m u
+    unfolding inTheWay
+    way-is s u b = ap₂ (λ (y z : Bool). not (eqb u s) && (y || z)) (holder-is u b) (waiter-is u b)
+
+    -- So the lowest is the model's.
     pub obstacle-is : (s : ℕ) → obstacle text ws n s q ≡ Told.obstacle (service p) w s m
-    unfolding obstacle inTheWay
-    obstacle-is s =
-        least-same (inTheWay text ws n s q) (Told.inTheWay (service p) (w .slots) (w .line) s m) 8
-        (λ u b. ap₂ (λ (y z : Bool). not (eqb u s) && (y || z)) (holder-is u b) (waiter-is u b))
+    unfolding obstacle
+    obstacle-is s = least-same (inTheWay text ws n s q) (Told.inTheWay (service p) (w .slots) (w .line) s m) 8 (way-is s)

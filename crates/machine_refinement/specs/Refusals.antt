@@ -6,7 +6,7 @@ use mathlib.Core.List.{List}
 use Rattle.model.specs.Vector.{Program}
 use Rattle.model.specs.Service.{Answer, done, going, answer, refuse, held, stopped, World}
 use Rattle.model.specs.Machine.{service, Call, call}
-use Rattle.twophase.specs.Moves.{Move, refused, joins, starts, goes-on, replies, halts, commits, aborts, moves}
+use Rattle.twophase.specs.Moves.{Move, refused, closes-circle, joins, starts, goes-on, replies, halts, commits, aborts, moves}
 use Rattle.machine_words.specs.Calls.{called}
 use Rattle.machine_refinement.specs.Rep.{Rep}
 use Rattle.machine_refinement.specs.Refines.{refines}
@@ -22,8 +22,9 @@ refusal stopped = 31
 
 -- A call of the model refuses with 31 or more.
 move-number : {p : Program} {w : World (service p)} {c : Call} {y : Answer × World (service p)} → Move (service p) w c y → 31 ≤ refusal (y .0)
-move-number (refused c n g) = g
-move-number (joins s q m k a h e) = omega arith
+move-number (refused c n g l) = g
+move-number (closes-circle s q m k a h o e) = omega arith
+move-number (joins s q m k a h o e) = omega arith
 move-number (starts s q m a e) = omega arith
 move-number (goes-on s y r r′ e a v) = omega arith
 move-number (replies s y r n e a v) = omega arith

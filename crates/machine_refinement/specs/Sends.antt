@@ -15,11 +15,11 @@ use Rattle.model.specs.Vector.{Program}
 use Rattle.model.specs.Message.{Target, object, class, domain, Message}
 use Rattle.model.specs.Message as Model
 use Rattle.model.specs.Lock.{locksFor, locksHeld}
-use Rattle.model.specs.Service.{done, held, opened, Transaction, World, withFields, standing, starting, started, obstacle, joined, arrived, granted, sent}
+use Rattle.model.specs.Service.{done, held, opened, Transaction, World, withFields, standing, starting, started, obstacle, joined, inCircle, admitted, arrived, granted, sent}
 use Rattle.model.specs.Machine.{service, methodAt, Request, to, find}
 use Rattle.catalog.specs.View.{objectWord, classCount, objectCount, memberCount}
 use Rattle.machine_words.specs.Request.{Wanted, locked, First, on, past, nowhere, firstOf, entered}
-use Rattle.machine_words.specs.Line.{countIn}
+use Rattle.machine_words.specs.Line.{countIn, closesCircle}
 use Rattle.machine_words.specs.Calls.{After, refused, tablesOf, rowOf, phaseOf, wanted, startedAt, startedOr, joinedAt, arrivedOr, grantedOr, sentTo, sentBy}
 use Rattle.machine_words.specs.Calls as Words
 use Rattle.machine_refinement.specs.Rep.{SlotRep, methodOf, Aims, one, each, whole, messageFor, Rep}
@@ -30,6 +30,7 @@ use Rattle.machine_refinement.specs.WaitRows.{settled-ready}
 use Rattle.machine_refinement.specs.State.{row-size, StandingRep, slot-stands, moved-rep}
 use Rattle.machine_refinement.specs.Obstacles.{obstacle-is}
 use Rattle.machine_refinement.specs.Begins.{begins}
+use Rattle.machine_refinement.specs.Circles.{closes-is}
 use Rattle.machine_refinement.specs.Joins.{room, joins}
 use Rattle.machine_refinement.specs.Transitions.{Follows}
 
@@ -83,10 +84,15 @@ module _ (text ws values : List ℕ) (p : Program) (w₀ : World (service p)) (r
     arrives : (o : Option ℕ) → Follows text p (arrivedOr text ws values s q o) (arrived (service p) w s m o)
     arrives none = begins-now
     arrives (some u) =
-        let space = room text ws values p w₀ rep s h idle still c k a l has kind n x aims in
-        subst (λ (y : After). Follows text p y (held u, joined (service p) w s m))
-        (ap (λ (b : Bool). cond b (refused ws values 24) (joinedAt text ws values s q u)) (sym (lt-leb 8 (countIn ws) space)))
-        (refl, joins text ws values p w₀ rep s h idle still c k a l has kind n x aims)
+        subst (λ (y : After). Follows text p y (arrived (service p) w s m (some u)))
+        (ap (λ (b : Bool). cond b (refused ws values 24) (cond (closesCircle text ws s q) (refused ws values 42) (joinedAt text ws values s q u)))
+        (sym (lt-leb 8 (countIn ws) (room text ws values p w₀ rep s h idle still c k a l has kind n x aims))))
+        (subst (λ (b : Bool). Follows text p (cond b (refused ws values 42) (joinedAt text ws values s q u)) (arrived (service p) w s m (some u)))
+        (sym (closes-is text ws values p w rep s h c k a l has kind n x aims)) (joins-or (inCircle (service p) (joined (service p) w s m) s)))
+      where
+        joins-or : (b : Bool) → Follows text p (cond b (refused ws values 42) (joinedAt text ws values s q u)) (admitted (service p) w s m u b)
+        joins-or true = (refl, rep)
+        joins-or false = (refl, joins text ws values p w₀ rep s h idle still c k a l has kind n x aims)
 
     grants : (b : Bool) → Follows text p (grantedOr text ws values s q b) (granted (service p) w s m b)
     grants true = begins-now

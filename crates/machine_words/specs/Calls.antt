@@ -15,7 +15,7 @@ use Rattle.machine_words.specs.Row.{Left, noteAt, freed, carried}
 use Rattle.machine_words.specs.Turn.{decided}
 use Rattle.machine_words.specs.Request.{Wanted, lacking, ownsLocks, locked, First, on, past, nowhere, firstOf, entered}
 unfoldable pub use Rattle.machine_words.specs.Line.{tablesOf, rowStart, rowOf, withRow, phaseOf}
-use Rattle.machine_words.specs.Line.{waitingRow, withdrawn, countIn, withPlace, obstacle, woken}
+use Rattle.machine_words.specs.Line.{waitingRow, withdrawn, countIn, withPlace, obstacle, closesCircle, woken}
 
 -- The mark that a start leaves.
 abbrev pub mark : ℕ
@@ -58,7 +58,7 @@ startedOr text ws values s q (on o first end) = startedAt text ws values s q (on
 startedOr text ws values s q (past o) = startedAt text ws values s q (past o)
 startedOr text ws values s q nowhere = refused ws values 24
 
--- A send that joins the line, the last there; 24 where the line has no place for it.
+-- A send that joins the line, the last there; 24 where the line has no place for it, 42 where it would close a circle of waits.
 abbrev pub joinedAt : List ℕ → List ℕ → List ℕ → ℕ → Wanted → ℕ → After
 joinedAt text ws values s q t =
     record {
@@ -68,7 +68,9 @@ joinedAt text ws values s q t =
     }
 
 abbrev pub joinedOr : List ℕ → List ℕ → List ℕ → ℕ → Wanted → ℕ → After
-joinedOr text ws values s q t = cond (leb 8 (countIn ws)) (refused ws values 24) (joinedAt text ws values s q t)
+joinedOr text ws values s q t =
+    cond (leb 8 (countIn ws)) (refused ws values 24)
+    (cond (closesCircle text ws s q) (refused ws values 42) (joinedAt text ws values s q t))
 
 -- A send that needs a new lock, with the lowest slot in its way, if any.
 abbrev pub arrivedOr : List ℕ → List ℕ → List ℕ → ℕ → Wanted → Option ℕ → After
@@ -81,7 +83,7 @@ grantedOr text ws values s q true = startedOr text ws values s q (firstOf text (
 grantedOr text ws values s q false = arrivedOr text ws values s q (obstacle text ws (countIn ws) s q)
 
 unfoldable pub granted : List ℕ → List ℕ → List ℕ → ℕ → Wanted → After
-unfolding ownsLocks obstacle countIn rowOf waitingRow firstOf entered locked
+unfolding ownsLocks obstacle countIn closesCircle rowOf waitingRow firstOf entered locked
 granted text ws values s q = grantedOr text ws values s q (ownsLocks text (tablesOf ws) q (rowOf ws s))
 
 -- A send to an existing target of class c: 24 where there is no such class, 36 where it has no such method, and 24 where some

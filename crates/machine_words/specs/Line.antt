@@ -1,13 +1,14 @@
--- The line over the words (02, Ticket 7): a waiting send in its slot's row, the places of the line, and the waking of those who wait.
+-- The line over the words (02, Tickets 7 and 8): a waiting send in its slot's row, the places of the line, circles of waits, and the
+-- waking of those who wait.
 use Prim.Native.Nat.{ℕ, zero, suc, _+_, _*_, _%_}
-use mathlib.Core.Bool.{Bool, not, cond, _&&_, _||_}
+use mathlib.Core.Bool.{Bool, false, not, cond, _&&_, _||_}
 use mathlib.Core.Option.{Option, none, some}
 use mathlib.Core.List.{List}
 use lib.ListN.{getD, set, take, drop, replicate}
 use lib.Seq.{sets}
 use lib.Dec.{eqb, leb, ltb}
 use Rattle.layout.specs.Layout.{tableWords, phaseAt, kindAt, numberAt, nameAt, argumentAt, classAt, placeAt, waitingAt, waitingWords, rowWords, lineAt, firstInLineAt}
-use Rattle.model.specs.Base.{any, least}
+use Rattle.model.specs.Base.{any, least, leads}
 use Rattle.machine_words.specs.Request.{Wanted, rowMeets, locked, First, on, past, nowhere, firstOf, namedRow, entered}
 
 abbrev pub tablesOf : List ℕ → List ℕ
@@ -98,6 +99,25 @@ inTheWay text ws n s q t = not (eqb t s) && blocks ws n (rowMeets text (tablesOf
 unfoldable pub obstacle : List ℕ → List ℕ → ℕ → ℕ → Wanted → Option ℕ
 unfolding inTheWay least
 obstacle text ws n s q = least (inTheWay text ws n s q) 8
+
+-- ---- circles
+
+-- Whether slot u stands at one of `left` places of the line, from place i on, and slot t is in the way of its waiting send.
+unfoldable pub waitsFrom : List ℕ → List ℕ → ℕ → ℕ → ℕ → ℕ → Bool
+unfolding inTheWay rowOf waitingIn wantedIn
+waitsFrom text ws i zero u t = false
+waitsFrom text ws i (suc left) u t =
+    (eqb (slotAt ws i) u && inTheWay text ws i u (wantedIn (waitingIn (rowOf ws u))) t) || waitsFrom text ws (suc i) left u t
+
+-- Whether slot u waits for slot t, with a send of slot s as the last in line (02, Ticket 8).
+unfoldable pub waitsFor : List ℕ → List ℕ → ℕ → Wanted → ℕ → ℕ → Bool
+unfolding waitsFrom inTheWay countIn
+waitsFor text ws s q u t = waitsFrom text ws 0 (countIn ws) u t || (eqb s u && inTheWay text ws (countIn ws) u q t)
+
+-- Whether slot s would then wait, by one or more steps, for itself.
+unfoldable pub closesCircle : List ℕ → List ℕ → ℕ → Wanted → Bool
+unfolding waitsFor leads
+closesCircle text ws s q = leads (waitsFor text ws s q) 8 s s
 
 -- ---- waking
 

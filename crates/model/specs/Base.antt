@@ -73,3 +73,11 @@ least p (suc n) = orElse (least p n) (cond (p n) (some n) none)
 abbrev pub digit : Bool → ℕ
 digit true = 1
 digit false = 0
+
+-- Whether s leads to t by one or more steps of r, by way of numbers below n alone.
+unfoldable pub leads : (ℕ → ℕ → Bool) → ℕ → ℕ → ℕ → Bool
+leads r zero s t = r s t
+leads r (suc n) s t =
+    let on = leads r n n t in
+    let through = leads r n s n && on in
+    leads r n s t || through

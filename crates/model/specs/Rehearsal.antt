@@ -4,7 +4,7 @@ use mathlib.Core.Bool.{cond, _&&_}
 use mathlib.Core.Option.{Option, none, some}
 use mathlib.Core.List.{List, [], _∷_, _++_, map, flatMap}
 use lib.ListN.{length, getD, take, drop}
-use Rattle.model.specs.Base.{bytes, same, any, keep, firstAt, put, least}
+use Rattle.model.specs.Base.{bytes, same, any, keep, firstAt, put, least, leads}
 use Rattle.model.specs.Text.{pieces, words}
 use Rattle.model.specs.Word.{Name, isName, isNumber, decimal}
 use Rattle.model.specs.Library.{Library, Object, classAt, classNumber, memberPlace}
@@ -130,7 +130,7 @@ objectsPrinted l (x ∷ xs) values =
 
 -- The machine of a program, which answers call lines.
 unfoldable pub onProgram : (p : Program) → Lines (World (service p))
-unfolding callLine requestFor words any keep put least visited domainOf locksClash locksHeld turn putBack objectsPrinted
+unfolding callLine requestFor words any keep put least leads visited domainOf locksClash locksHeld turn putBack objectsPrinted
 onProgram p = record { reply = λ w line. replyTo p w (callLine (words line)); last = λ w. objectsPrinted (p .library) (p .library .objects) (w .fields) }
 
 -- "a faulty text prints as in `tables`, and no call is run"; else the machine is started on the text's starting values.

@@ -6,7 +6,7 @@ use mathlib.Core.Bool.{Bool, true, false, not, _&&_, _||_}
 use mathlib.Core.Option.{Option, none, some}
 use mathlib.Core.List.{List, [], _∷_, _++_}
 use lib.Dec.{eqb, ltb}
-use Rattle.model.specs.Base.{any, keep, put, least}
+use Rattle.model.specs.Base.{any, keep, put, least, leads}
 
 -- The outcome of a step: the message goes on, or ends with its answer, or is stopped.
 pub data Outcome (Run Effect : Type 0) : Type 0 where
@@ -63,8 +63,8 @@ pub data Call (Request : Type 0) : Type 0 where
   send : ℕ → Request → Call Request
   step commit abort : ℕ → Call Request
 
--- The answer of a call: done (a send: granted), "going", the message's answer, a tablet's number 31 to 37, 40 with the lowest
--- clashing slot, or 41.
+-- The answer of a call: done (a send: granted), "going", the message's answer, a tablet's number 31 to 37 or 42, 40 with the
+-- lowest clashing slot, or 41.
 pub data Answer : Type 0 where
   done going : Answer
   answer : ℕ → Answer
@@ -202,10 +202,28 @@ module _ (𝓢 : Service) where
   abbrev pub ended : World → ℕ → Fields → World
   ended w s fields = wake (closedOver w s fields) (without s (w .line))
 
+  -- "a slot waits for each clashing holder and each clashing earlier waiter" (02, Ticket 8): whether slot s has a send in the rest of
+  -- the line that clashes with slot t, where `ahead` are those before the rest.
+  abbrev pub waitsIn : (ℕ → Slot) → List Waiter → List Waiter → ℕ → ℕ → Bool
+  waitsIn slots ahead [] s t = false
+  waitsIn slots ahead (v ∷ vs) s t = (eqb (v .slot) s && inTheWay slots ahead s (v .message) t) || waitsIn slots (ahead ++ (v ∷ [])) vs s t
+
+  abbrev pub waitsFor : World → ℕ → ℕ → Bool
+  waitsFor w s t = waitsIn (w .slots) [] (w .line) s t
+
+  -- "a circle of waits": the slot waits, by one or more steps, for itself.
+  abbrev pub inCircle : World → ℕ → Bool
+  inCircle w s = leads (waitsFor w) 8 s s
+
+  -- "42, tested in place of joining the line, for such a circle only"; "Such a send changes nothing." (02, Ticket 8)
+  abbrev pub admitted : World → ℕ → Message → ℕ → Bool → Answer × World
+  admitted w s m k true = (refuse 42, w)
+  admitted w s m k false = (held k, joined w s m)
+
   -- A send that needs a new lock. "A send clashing with no other slot gets all its locks and starts"; else "still answers 40 with
   -- the lowest slot it clashes with" (02, Ticket 7).
   abbrev pub arrived : World → ℕ → Message → Option ℕ → Answer × World
-  arrived w s m (some k) = (held k, joined w s m)
+  arrived w s m (some k) = admitted w s m k (inCircle (joined w s m) s)
   arrived w s m none = (done, started w s m)
 
   -- "except that a send whose locks its slot already holds starts regardless"
@@ -293,7 +311,7 @@ module _ (𝓢 : Service) where
 
   -- The answers of a list of calls, and the world after it.
   unfoldable pub runCalls : World → List (Call Request) → List Answer × World
-  unfolding any keep put least
+  unfolding any keep put least leads
   runCalls w [] = ([], w)
   runCalls w (c ∷ cs) =
       let (a, next) = call w c in

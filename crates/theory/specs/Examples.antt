@@ -203,7 +203,8 @@ additions =
 
 -- The line. A commit wakes the first in it, and 40 names the lowest slot, not the first in line; an abort wakes one that does not clash
 -- with those ahead; a new send waits behind a waiting one that it clashes with, and starts when that one is withdrawn; a send whose
--- locks its slot holds passes, one to an object after one to its class does not; 41 and commit wake; and a list against the course.
+-- locks its slot holds passes, one to an object after one to its class does not, and would wait for one that waits for its slot; 41 and
+-- commit wake; and a list against the course.
 abbrev line : List Row
 line =
     plays mixed
@@ -221,7 +222,7 @@ line =
     plays mixed
     (send 0 (to (domain 0) 1 0) ∷ replicate 6 (step 0) ++ (send 1 (to (object 0) 0 1) ∷ send 0 (to (class 0) 1 0) ∷ replicate 4 (step 0)) ++
     (send 0 (to (object 0) 1 0) ∷ []))
-    (done ∷ replicate 5 going ++ (answer 11 ∷ held 0 ∷ done ∷ going ∷ going ∷ going ∷ answer 4 ∷ held 1 ∷ [])) (5 ∷ 7 ∷ 0 ∷ 4294967295 ∷ []) ∷
+    (done ∷ replicate 5 going ++ (answer 11 ∷ held 0 ∷ done ∷ going ∷ going ∷ going ∷ answer 4 ∷ refuse 42 ∷ [])) (5 ∷ 7 ∷ 0 ∷ 4294967295 ∷ []) ∷
     plays spiral
     (send 0 (to (object 0) 0 0) ∷ send 1 (to (object 0) 1 9) ∷ send 2 (to (object 0) 1 3) ∷ replicate 16 (step 0) ++
     (step 2 ∷ step 1 ∷ step 1 ∷ commit 1 ∷ step 2 ∷ []))
@@ -229,6 +230,35 @@ line =
     agrees mixed
     (send 0 (to (object 0) 0 1) ∷ send 1 (to (class 0) 0 2) ∷ send 2 (to (object 0) 1 0) ∷ replicate 3 (step 0) ++ (commit 0 ∷ replicate 6 (step 1)) ++
     (commit 1 ∷ step 2 ∷ step 2 ∷ commit 2 ∷ [])) ∷
+    []
+
+-- Circles of waits. Two slots that ask for each other's objects: the second gets 42, which changes nothing, so that it may ask again, send
+-- where it has the locks, and commit; a third slot that asks for an object of a waiting one gets 40. A send that clashes only with a
+-- waiting one, which waits for the sender's locks, closes a circle too. So do three slots, by way of the last one.
+abbrev crossing : List Call
+crossing =
+    send 0 (to (object 0) 0 1) ∷ replicate 3 (step 0) ++ (send 1 (to (object 2) 0 1) ∷ replicate 3 (step 1)) ++
+    (send 0 (to (object 2) 0 2) ∷ send 1 (to (object 0) 0 2) ∷ send 1 (to (object 0) 1 0) ∷ step 1 ∷ send 2 (to (object 0) 0 3) ∷
+    send 1 (to (object 2) 0 4) ∷ replicate 3 (step 1)) ++
+    (step 0 ∷ commit 1 ∷ replicate 3 (step 0)) ++ (commit 0 ∷ replicate 3 (step 2)) ++ (commit 2 ∷ [])
+
+abbrev circles : List Row
+circles =
+    plays mixed crossing
+    (done ∷ going ∷ going ∷ answer 6 ∷ done ∷ going ∷ going ∷ answer 0 ∷
+    held 1 ∷ refuse 42 ∷ refuse 42 ∷ refuse 35 ∷ held 0 ∷ done ∷ going ∷ going ∷ answer 4 ∷
+    refuse 37 ∷ done ∷ going ∷ going ∷ answer 6 ∷ done ∷ going ∷ going ∷ answer 9 ∷ done ∷ [])
+    (9 ∷ 7 ∷ 0 ∷ 6 ∷ []) ∷
+    agrees mixed crossing ∷
+    plays mixed
+    (send 0 (to (object 0) 0 1) ∷ replicate 3 (step 0) ++ (send 1 (to (class 0) 0 2) ∷ send 0 (to (object 2) 0 3) ∷ commit 0 ∷ step 1 ∷ []))
+    (done ∷ going ∷ going ∷ answer 6 ∷ held 0 ∷ refuse 42 ∷ done ∷ going ∷ []) (8 ∷ 7 ∷ 0 ∷ 4294967295 ∷ []) ∷
+    plays mixed
+    (send 5 (to (object 0) 1 0) ∷ step 5 ∷ step 5 ∷ send 7 (to (object 2) 1 0) ∷ step 7 ∷ step 7 ∷ send 6 (to (object 1) 0 1) ∷ replicate 6 (step 6) ++
+    (send 5 (to (object 2) 0 1) ∷ send 7 (to (object 1) 0 2) ∷ send 6 (to (object 0) 0 1) ∷ commit 6 ∷ step 7 ∷ step 5 ∷ []))
+    (done ∷ going ∷ answer 5 ∷ done ∷ going ∷ answer 4294967295 ∷ done ∷ replicate 5 going ++
+    (answer 8 ∷ held 7 ∷ held 6 ∷ refuse 42 ∷ done ∷ going ∷ refuse 37 ∷ []))
+    (5 ∷ 7 ∷ 2 ∷ 4294967295 ∷ []) ∷
     []
 
 -- A message of 1,024 steps, and one of one more step.
@@ -244,7 +274,7 @@ courses =
     (send 0 (to (object 0) 0 1) ∷ send 1 (to (class 1) 0 2) ∷ step 0 ∷ step 1 ∷ step 1 ∷ step 0 ∷ step 1 ∷ step 1 ∷ step 0 ∷ step 1 ∷ step 1 ∷
     commit 1 ∷ send 0 (to (domain 0) 0 4) ∷ replicate 12 (step 0) ++ (commit 0 ∷ send 0 (to (object 0) 0 7) ∷ step 0 ∷ abort 0 ∷ [])) ∷ []
 
--- 51 for a line of another form and for a last line without LF, 36 for an unknown name, 40 with its slot, 37 until the line wakes;
+-- 51 for a line of another form and for a last line without LF, 36 for an unknown name, 40 with its slot, 37 until the line wakes, 42;
 -- 31, 37 and 34 before an unknown name, and the values as an open transaction left them; a faulty text; no input.
 abbrev adder : List ℕ
 adder = text ("class a" ∷ "field x" ∷ "method m" ∷ "set x + x arg" ∷ "end" ∷ "object o a 5" ∷ [])
@@ -254,9 +284,9 @@ rehearsals =
     rehearses adder
     (text
     ("send 0 o m 3" ∷ "step 0" ∷ "step 0" ∷ "send 1 o m 1" ∷ "step 1" ∷ "send 1 o q 1" ∷ "send 2 o q 1" ∷ "all 2 b m 1" ∷ "step" ∷ "open 1" ∷
-    "commit 0" ∷ "tree 1 a m 4" ∷ "step 1" ∷ "step 8" ∷ []) ++ bytes "abort 1")
+    "all 0 a m 4" ∷ "commit 0" ∷ "tree 1 a m 4" ∷ "step 1" ∷ "step 8" ∷ []) ++ bytes "abort 1")
     (text
-    ("ok" ∷ "going" ∷ "answer 0" ∷ "40 0" ∷ "37" ∷ "37" ∷ "36" ∷ "36" ∷ "51" ∷ "51" ∷ "ok" ∷ "34" ∷ "going" ∷ "31" ∷ "51" ∷ "o 9" ∷ [])) ∷
+    ("ok" ∷ "going" ∷ "answer 0" ∷ "40 0" ∷ "37" ∷ "37" ∷ "36" ∷ "36" ∷ "51" ∷ "51" ∷ "42" ∷ "ok" ∷ "34" ∷ "going" ∷ "31" ∷ "51" ∷ "o 9" ∷ [])) ∷
     rehearses adder (text ("send 8 b m 1" ∷ "send 0 o m 3" ∷ "step 0" ∷ "send 0 b m 1" ∷ [])) (text ("31" ∷ "ok" ∷ "going" ∷ "34" ∷ "o 8" ∷ [])) ∷
     rehearses (bytes "class a\nclass a\n") (bytes "step 0\n") (bytes "refused 13 2\n") ∷
     rehearses lanes [] (text ("lane1 0 0 0" ∷ [])) ∷
@@ -301,6 +331,10 @@ line-pass : Passing line
 unfolding every passes mixed spiral
 line-pass = refl
 
+circles-pass : Passing circles
+unfolding every passes mixed
+circles-pass = refl
+
 stops-pass : Passing stops
 unfolding every passes long
 stops-pass = refl
@@ -315,10 +349,10 @@ rehearsals-pass = refl
 
 -- The table.
 abbrev pub rows : List Row
-rows = starred ++ (lent ++ (vectors ++ (machine ++ (additions ++ (line ++ (stops ++ (courses ++ rehearsals)))))))
+rows = starred ++ (lent ++ (vectors ++ (machine ++ (additions ++ (line ++ (circles ++ (stops ++ (courses ++ rehearsals))))))))
 
 -- Every row passes.
 pub every-row-passes : every passes rows ≡ true
 every-row-passes =
     both starred _ starred-pass (both lent _ lent-pass (both vectors _ vectors-pass (both machine _ machine-pass
-    (both additions _ additions-pass (both line _ line-pass (both stops _ stops-pass (both courses _ courses-pass rehearsals-pass)))))))
+    (both additions _ additions-pass (both line _ line-pass (both circles _ circles-pass (both stops _ stops-pass (both courses _ courses-pass rehearsals-pass))))))))

@@ -19,7 +19,7 @@ use Rattle.laws.specs.Basics.{put-cases}
 use Rattle.laws.specs.Lists.{eqb-same, ltb-true, keep-in, in-keep, in-upto, map-in, member-any}
 use Rattle.twophase.specs.Order.{sub-in, sub-drop}
 use Rattle.twophase.specs.Line.{wake-by}
-use Rattle.twophase.specs.Moves.{Move, refused, joins, starts, goes-on, replies, halts, commits, aborts, moves}
+use Rattle.twophase.specs.Moves.{Move, refused, closes-circle, joins, starts, goes-on, replies, halts, commits, aborts, moves}
 use Rattle.theory.specs.CommitOrder.{left}
 
 -- Some lock is in the list.
@@ -137,8 +137,9 @@ module _ (p : Program) where
 
   move-holds : (w : World (service p)) → AllHold (w .slots) (w .line) → {c : Call} {y : Answer × World (service p)} → Move (service p) w c y
       → AllHold (y .1 .slots) (y .1 .line)
-  move-holds w h (refused c n g) = h
-  move-holds w h (joins s q m k a e o) =
+  move-holds w h (refused c n g l) = h
+  move-holds w h (closes-circle s q m k a e o b) = h
+  move-holds w h (joins s q m k a e o b) =
       join-holds (w .slots) (w .line) (record { slot = s; message = m }) (standing (service p) (w .slots s)) h (found-takes q m (a .found))
   move-holds w h (starts s q m a e) =
       start-holds (w .slots) (w .line) h (w .line) s m (standing (service p) (w .slots s)) (found-takes q m (a .found)) (λ v i. i) (λ k ne l. l)

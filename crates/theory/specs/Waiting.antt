@@ -1,4 +1,4 @@
--- What is promised of the line (02, Ticket 7), for any text: the theorem of twophase/Waiting for this machine.
+-- What is promised of the line (02, Tickets 7 and 8), for any text: the theorem of twophase/Waiting for this machine.
 use Prim.Native.Nat.{ℕ}
 use mathlib.Core.Path.{ap, subst}
 use mathlib.Core.List.{List}

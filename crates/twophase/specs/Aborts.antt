@@ -15,7 +15,7 @@ use Rattle.model.specs.Base.{put}
 use Rattle.laws.specs.Basics.{put-same, put-other, put-cases, In, here, there}
 use Rattle.model.specs.Service.{Service, Call, abort, Answer, done, going, answer, refuse, held, stopped, Transaction, Slot, closed, opened, Waiter, World, fresh, standing, waits, wake, closedOver, without, ended, undone, onReady, onOpen, onSlot, inRange, call, runCalls, Course, fed, fedAll}
 use Rattle.twophase.specs.Order.{sub-in, sub-keep}
-use Rattle.twophase.specs.Moves.{Move, refused, joins, starts, goes-on, replies, halts, commits, aborts, moves}
+use Rattle.twophase.specs.Moves.{Move, refused, closes-circle, joins, starts, goes-on, replies, halts, commits, aborts, moves}
 use Rattle.twophase.specs.Line.{open-closed, without-away, wake-by, wake-else, ended-closed}
 
 module _ (𝓢 : Service) where
@@ -53,8 +53,9 @@ module _ (𝓢 : Service) where
       (λ v i. subst Opened (sym (put-other (w .slots) s closed (v .slot) (without-away 𝓢 s (w .line) v i))) (h v (sub-in (sub-keep _ (w .line)) i)))
 
   move-open : {w : World 𝓢} {c : Call Request} {y : Answer × World 𝓢} → Move 𝓢 w c y → AllOpen (w .slots) (w .line) → AllOpen (y .1 .slots) (y .1 .line)
-  move-open (refused c n g) h = h
-  move-open {w} (joins s q m k a e o) h =
+  move-open (refused c n g l) h = h
+  move-open (closes-circle s q m k a e o b) h = h
+  move-open {w} (joins s q m k a e o b) h =
       let t = standing 𝓢 (w .slots s) in
       add-open (put (w .slots) s (opened t)) (w .line) (record { slot = s; message = m }) (put-open (w .slots) (w .line) s t h)
       (subst Opened (sym (put-same (w .slots) s (opened t))) tt)

@@ -1,5 +1,6 @@
 pub mod Claims
 pub mod Order
+pub mod Circles
 pub mod Moves
 pub mod Laws
 pub mod Effects
@@ -8,5 +9,6 @@ pub mod Preserve
 pub mod Line
 pub mod Waking
 pub mod Theorem
+pub mod Deadlock
 pub mod Waiting
 pub mod Aborts

@@ -1,18 +1,19 @@
--- The line: which slot blocks a waiting send, that no slot is in it twice, and what follows by waking one send after another.
+-- The line: which slot blocks a waiting send and so which slot waits for which, that no slot is in it twice, and what follows by waking
+-- one send after another.
 use Prim.Native.Nat.{ℕ, _<_}
 use native.Mathlib.Omega.{arith}
 use mathlib.Core.Path.{_≡_, refl, sym, ap, _∙_, subst}
 use mathlib.Core.Logic.{_⊎_, inl, inr}
-use mathlib.Core.Bool.{true, not, _&&_}
+use mathlib.Core.Bool.{true, not, _&&_, false≢true}
 use mathlib.Core.Option.{Option, none, some}
-use mathlib.Core.List.{List, [], _∷_, _++_, List·Memᴰ, List·Memᴰ·head, List·Memᴰ·tail, List·Memᴰ·not-nil, List·Memᴰ·append-cases, List·Memᴰ·eq-of-singleton, Memᴰ·append-right}
+use mathlib.Core.List.{List, [], _∷_, _++_, append-assoc, List·Memᴰ, List·Memᴰ·head, List·Memᴰ·tail, List·Memᴰ·not-nil, List·Memᴰ·append-cases, List·Memᴰ·eq-of-singleton, Memᴰ·append-left, Memᴰ·append-right}
 use lib.Dec.{eqb}
-use borrow.Author.Tests.{eqb-false, ne-eqb, not-true}
+use borrow.Author.Tests.{eqb-false, eq-eqb, ne-eqb, not-true}
 use Rattle.model.specs.Base.{any, put}
-use Rattle.model.specs.Service.{Service, Transaction, Slot, closed, opened, World, Waiter, heldBy, started, inTheWay, obstacle, queued, wokenOr, wake, closedOver, without, ended, Sends}
+use Rattle.model.specs.Service.{Service, Transaction, Slot, closed, opened, World, Waiter, heldBy, started, inTheWay, obstacle, queued, wokenOr, wake, closedOver, without, ended, waitsIn, waitsFor, Sends}
 use Rattle.laws.specs.Basics.{put-same, put-other, at-or}
 use Rattle.laws.specs.Lists.{both-left, both-right, both-true, either-cases, either-left, either-right, eqb-true, eqb-same, any-member, member-any, in-keep}
-use Rattle.twophase.specs.Order.{Before, Sub, both, skip, nothing, sub-in}
+use Rattle.twophase.specs.Order.{Before, first, later, before-across, Sub, both, skip, nothing, sub-in}
 
 module _ (𝓢 : Service) where
   open Service 𝓢 using (Fields, Message, clash, meets)
@@ -76,6 +77,64 @@ module _ (𝓢 : Service) where
   pub same-held : (slots : ℕ → Slot 𝓢) (s : ℕ) (z : Slot 𝓢) → heldBy 𝓢 z ≡ heldBy 𝓢 (slots s) → (k : ℕ) → heldBy 𝓢 (put slots s z k) ≡ heldBy 𝓢 (slots k)
   same-held slots s z e = at-or (λ k. heldBy 𝓢 (put slots s z k) ≡ heldBy 𝓢 (slots k)) s (ap (heldBy 𝓢) (put-same slots s z) ∙ e)
       (λ k ne. ap (heldBy 𝓢) (put-other slots s z k ne))
+
+  -- ---- which slot waits for which
+
+  -- Slot s waits for slot t: it has a send in the line that slot t blocks.
+  pub record For (slots : ℕ → Slot 𝓢) (line : List (Waiter 𝓢)) (s t : ℕ) : Type 0 where
+    pub waiter : Waiter 𝓢
+    pub among : List·Memᴰ waiter line
+    pub its : waiter .slot ≡ s
+    pub blocks : Blocks slots line waiter t
+
+  module _ (slots : ℕ → Slot 𝓢) (s t : ℕ) where
+    rest-for : (line front rest : List (Waiter 𝓢)) → front ++ rest ≡ line → waitsIn 𝓢 slots front rest s t ≡ true → For slots line s t
+    rest-for line front [] e h = absurd (false≢true h)
+    rest-for line front (v ∷ vs) e h =
+        go (rest-for line (front ++ (v ∷ [])) vs (append-assoc front (v ∷ []) vs ∙ e)) (either-cases (eqb (v .slot) s && inTheWay 𝓢 slots front s (v .message) t) _ h)
+      where
+        go : (waitsIn 𝓢 slots (front ++ (v ∷ [])) vs s t ≡ true → For slots line s t)
+            → (eqb (v .slot) s && inTheWay 𝓢 slots front s (v .message) t ≡ true) ⊎ (waitsIn 𝓢 slots (front ++ (v ∷ [])) vs s t ≡ true) → For slots line s t
+        go rec (inr q) = rec q
+        go rec (inl q) =
+            let its = eqb-true (v .slot) s (both-left (eqb (v .slot) s) _ q) in
+            record {
+              waiter = v;
+              among = subst (List·Memᴰ v) e (Memᴰ·append-right front (List·Memᴰ·head refl));
+              its = its;
+              blocks = way-blocks slots front line v t (λ u i. subst (Before u v) e (before-across front i (List·Memᴰ·head refl)))
+                  (subst (λ (j : ℕ). inTheWay 𝓢 slots front j (v .message) t ≡ true) (sym its) (both-right (eqb (v .slot) s) _ q));
+            }
+
+    module _ (v : Waiter 𝓢) (its : v .slot ≡ s) where
+      -- A send in the rest, where the test passes whichever sends are ahead of it beside those in front.
+      rest-test : (front rest : List (Waiter 𝓢))
+          → ((more : List (Waiter 𝓢)) → ((u : Waiter 𝓢) → List·Memᴰ u front → List·Memᴰ u more) → inTheWay 𝓢 slots more s (v .message) t ≡ true)
+          → List·Memᴰ v rest → waitsIn 𝓢 slots front rest s t ≡ true
+      rest-test front (y ∷ ys) passes (List·Memᴰ·head e) = either-left (eqb (y .slot) s && inTheWay 𝓢 slots front s (y .message) t) _
+          (subst (λ z. (eqb (z .slot) s && inTheWay 𝓢 slots front s (z .message) t) ≡ true) e
+          (both-true (eqb (v .slot) s) _ (eq-eqb (v .slot) s its) (passes front (λ u i. i))))
+      rest-test front (y ∷ ys) passes (List·Memᴰ·tail i) = either-right (eqb (y .slot) s && inTheWay 𝓢 slots front s (y .message) t) _
+          (rest-test (front ++ (y ∷ [])) ys (λ more h. passes more (λ u j. h u (Memᴰ·append-left (y ∷ []) j))) i)
+
+      rest-ahead : (u : Waiter 𝓢) → u .slot ≡ t → (t ≡ s → ⊥) → meets (v .message) (u .message) ≡ true → (front rest : List (Waiter 𝓢))
+          → Before u v rest → waitsIn 𝓢 slots front rest s t ≡ true
+      rest-ahead u e ne m front (y ∷ ys) (first q i) = either-right (eqb (y .slot) s && inTheWay 𝓢 slots front s (y .message) t) _
+          (rest-test (front ++ (y ∷ [])) ys (λ more h. subst (λ (k : ℕ). inTheWay 𝓢 slots more s (v .message) k ≡ true) e
+          (way-send slots more s (v .message) u (h u (Memᴰ·append-right front (List·Memᴰ·head q))) (λ k. ne (sym e ∙ k)) m)) i)
+      rest-ahead u e ne m front (y ∷ ys) (later b) = either-right (eqb (y .slot) s && inTheWay 𝓢 slots front s (y .message) t) _
+          (rest-ahead u e ne m (front ++ (y ∷ [])) ys b)
+
+      blocked-test : (line : List (Waiter 𝓢)) → List·Memᴰ v line → Blocks slots line v t → waitsIn 𝓢 slots [] line s t ≡ true
+      blocked-test line i (holder ne c) = rest-test [] line (λ more h. way-lock slots more s (v .message) t (λ k. ne (k ∙ sym its)) c) i
+      blocked-test line i (ahead ne u b e m) = rest-ahead u e (λ k. ne (k ∙ sym its)) m [] line b
+
+  -- The machine's test means it.
+  pub true-for : (w : World 𝓢) (s t : ℕ) → waitsFor 𝓢 w s t ≡ true → For (w .slots) (w .line) s t
+  true-for w s t = rest-for (w .slots) s t (w .line) [] (w .line) refl
+
+  pub for-true : (w : World 𝓢) (s t : ℕ) → For (w .slots) (w .line) s t → waitsFor 𝓢 w s t ≡ true
+  for-true w s t f = blocked-test (w .slots) s t (f .waiter) (f .its) (w .line) (f .among) (f .blocks)
 
   -- ---- one place for each slot
 

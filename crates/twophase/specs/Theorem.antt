@@ -12,12 +12,12 @@ use borrow.Author.Tests.{eq-eqb}
 use Rattle.model.specs.Base.{put}
 use Rattle.laws.specs.Basics.{put-same, put-other, below-or}
 use Rattle.laws.specs.Lists.{member-any}
-use Rattle.model.specs.Service.{Service, Call, send, step, commit, abort, Answer, done, refuse, Transaction, Slot, closed, opened, Waiter, World, fresh, heldBy, started, waits, obstacle, joined, ended, undone, after, slotOf, call, Sends, Course, noSends, withSends, startCourse, committed, addAnswer, named, fed}
+use Rattle.model.specs.Service.{Service, Call, send, step, commit, abort, Answer, done, refuse, Transaction, Slot, closed, opened, Waiter, World, fresh, heldBy, started, waits, obstacle, joined, inCircle, ended, undone, after, slotOf, call, Sends, Course, noSends, withSends, startCourse, committed, addAnswer, named, fed}
 use Rattle.twophase.specs.Claims.{both, putBackSlot, putBackAll, Serial, Moment}
 use Rattle.twophase.specs.Laws.{Laws}
 use Rattle.twophase.specs.Effects.{acts, over, over-same}
 use Rattle.twophase.specs.Invariant.{Invariant, agree-self, closed-state, open-state, back-below, own-clear}
-use Rattle.twophase.specs.Moves.{Asks, Move, refused, joins, starts, goes-on, replies, halts, commits, aborts, moves}
+use Rattle.twophase.specs.Moves.{Asks, Move, refused, closes-circle, joins, starts, goes-on, replies, halts, commits, aborts, moves}
 use Rattle.twophase.specs.Preserve.{named-keeps, opened-keeps, started-keeps, goes-keeps, ends-keeps, undone-keeps, committed-keeps}
 use Rattle.twophase.specs.Line.{open-closed, Ready}
 use Rattle.twophase.specs.Waking.{Good, Less, start-grow, no-lock, no-send, ended-keeps, line-keeps, same-less, same-grow, start-keeps-less, joined-keeps}
@@ -29,10 +29,11 @@ module _ (𝓢 : Service) (𝓛 : Laws 𝓢) where
   -- ---- each call
 
   -- What a call does to the line: it leaves sends that waited, blocked by no more slots than before and in their order, or it adds
-  -- one at the end. Only an abort withdraws a send.
+  -- one at the end that closes no circle of waits. Only an abort withdraws a send.
   pub data Next (w : World 𝓢) (c : Call Request) : World 𝓢 → Type 0 where
     leaves : (w′ : World 𝓢) → Less 𝓢 𝓛 (λ k. c ≡ abort k) (w .slots) (w .line) (w′ .slots) (w′ .line) → Next w c w′
-    adds : (m : Message) → ((v : Waiter 𝓢) → List·Memᴰ v (w .line) → v .slot ≡ slotOf 𝓢 c → ⊥) → Next w c (joined 𝓢 w (slotOf 𝓢 c) m)
+    adds : (m : Message) → ((v : Waiter 𝓢) → List·Memᴰ v (w .line) → v .slot ≡ slotOf 𝓢 c → ⊥) → inCircle 𝓢 (joined 𝓢 w (slotOf 𝓢 c) m) (slotOf 𝓢 c) ≡ false
+        → Next w c (joined 𝓢 w (slotOf 𝓢 c) m)
 
   -- What is known at each moment.
   abbrev pub Known : World 𝓢 → Course 𝓢 → Type 0
@@ -101,11 +102,12 @@ module _ (𝓢 : Service) (𝓛 : Laws 𝓢) where
       )
 
       -- A message joins the line.
-      join-keeps : (k : ℕ) → obstacle 𝓢 w s m ≡ some k → Known (joined 𝓢 w s m) after-naming × Next w (send s q) (joined 𝓢 w s m)
-      join-keeps k o = (
+      join-keeps : (k : ℕ) → obstacle 𝓢 w s m ≡ some k → inCircle 𝓢 (joined 𝓢 w s m) s ≡ false
+          → Known (joined 𝓢 w s m) after-naming × Next w (send s q) (joined 𝓢 w s m)
+      join-keeps k o e = (
         joined-keeps 𝓢 𝓛 w x g s away m after-naming (put-off s _) (a .below) (a .idle) its-latest k o
             (opened-keeps 𝓢 𝓛 w after-naming named-inv s (a .below)),
-        adds m away,
+        adds m away e,
       )
 
     module _ (s : ℕ) (below : s < 8) (y : Transaction 𝓢) (q : w .slots s ≡ opened y) where
@@ -137,9 +139,10 @@ module _ (𝓢 : Service) (𝓛 : Laws 𝓢) where
 
     -- Every move.
     move-keeps : {c : Call Request} {y : Answer × World 𝓢} → Move 𝓢 w c y → Keeps c y
-    move-keeps (refused c n h) = refuse-keeps c n
-    move-keeps (joins s q m k a h o) =
-        subst (λ f. Known (joined 𝓢 w s m) (named 𝓢 x s f) × Next w (send s q) (joined 𝓢 w s m)) (sym (a .found)) (join-keeps s q m a k o)
+    move-keeps (refused c n h l) = refuse-keeps c n
+    move-keeps (closes-circle s q m k a h o e) = refuse-keeps (send s q) 42
+    move-keeps (joins s q m k a h o e) =
+        subst (λ f. Known (joined 𝓢 w s m) (named 𝓢 x s f) × Next w (send s q) (joined 𝓢 w s m)) (sym (a .found)) (join-keeps s q m a k o e)
     move-keeps (starts s q m a h) =
         subst (λ f. Known (started 𝓢 w s m) (named 𝓢 x s f) × Next w (send s q) (started 𝓢 w s m)) (sym (a .found)) (start-keeps s q m a h)
     move-keeps (goes-on s y r r′ e a v) =

@@ -1,4 +1,5 @@
--- What is promised of the line (02, Ticket 7): nothing waits that could start, each send starts in time, and none is overtaken.
+-- What is promised of the line (02, Tickets 7 and 8): nothing waits that could start, each send starts in time, none is overtaken, and
+-- the waits have no circle.
 use Prim.Native.Nat.{ℕ, _<_}
 use native.Mathlib.Omega.{arith}
 use mathlib.Core.Path.{_≡_, refl, sym, ap, _∙_, subst}
@@ -6,17 +7,17 @@ use mathlib.Core.Logic.{_⊎_, inl, inr}
 use mathlib.Core.Bool.{Bool, true, false, true≢false, false≢true}
 use mathlib.Core.Option.{none, some}
 use mathlib.Core.List.{List, [], _∷_, _++_, List·Memᴰ, List·Memᴰ·head, List·Memᴰ·not-nil, Memᴰ·append-right}
-use lib.Dec.{eqb}
-use Rattle.model.specs.Service.{Service, Call, send, step, commit, abort, Answer, done, going, answer, refuse, held, stopped, closed, opened, Waiter, World, fresh, standing, heldBy, waits, inTheWay, obstacle, joined, slotOf, call, Course, startCourse, fed}
+use Rattle.model.specs.Service.{Service, Call, send, step, commit, abort, Answer, done, going, answer, refuse, held, stopped, Transaction, closed, opened, Waiter, World, fresh, standing, heldBy, waits, inTheWay, obstacle, joined, waitsFor, slotOf, call, Course, startCourse, fed}
 use Rattle.laws.specs.Basics.{All}
-use Rattle.laws.specs.Lists.{eqb-true, any-member}
 use Rattle.twophase.specs.Claims.{both}
 use Rattle.twophase.specs.Laws.{Laws}
 use Rattle.twophase.specs.Order.{Before, before-in, before-across, before-append, before-tail}
-use Rattle.twophase.specs.Line.{open-closed, Blocks, holder, ahead, blocks-way, blocks-as, same-held, once-same, ended-closed}
-use Rattle.twophase.specs.Waking.{Stays, no-send, joined-less}
-use Rattle.twophase.specs.Moves.{Move, refused, joins, starts, goes-on, replies, halts, commits, aborts, moves}
-use Rattle.twophase.specs.Theorem.{Known, Next, leaves, adds, call-keeps, start-known, both-keeps}
+use Rattle.twophase.specs.Circles.{Leads}
+use Rattle.twophase.specs.Line.{Blocks, blocks-way, blocks-as, same-held, once-same, ended-closed}
+use Rattle.twophase.specs.Waking.{no-send}
+use Rattle.twophase.specs.Moves.{Move, refused, closes-circle, joins, starts, goes-on, replies, halts, commits, aborts, moves}
+use Rattle.twophase.specs.Theorem.{Known, Next, call-keeps, start-known, both-keeps}
+use Rattle.twophase.specs.Deadlock.{NoCircle, Unblocked, only-circles, circle-same, blocks-open, waiter-of, Stayed, stayed, stays-clear, start-clear, every-circle, not-on-closed, someone-goes-on}
 
 module _ (𝓢 : Service) where
   open Service 𝓢 using (Request, Message, meets, find, holds)
@@ -57,8 +58,9 @@ module _ (𝓢 : Service) where
       refusal (abort s) n e = false≢true e
 
       go : {c : Call Request} {y : Answer × World 𝓢} → Move 𝓢 w c y → endedBy c (y .0) ≡ true → y .1 .slots (slotOf 𝓢 c) ≡ closed
-      go (refused c n h) e = absurd (refusal c n e)
-      go (joins s q m k a h o) e = absurd (false≢true e)
+      go (refused c n h l) e = absurd (refusal c n e)
+      go (closes-circle s q m k a h o b) e = absurd (false≢true e)
+      go (joins s q m k a h o b) e = absurd (false≢true e)
       go (starts s q m a h) e = absurd (false≢true e)
       go (goes-on s y r r′ f a v) e = absurd (false≢true e)
       go (replies s y r n f a v) e = absurd (false≢true e)
@@ -117,37 +119,22 @@ module _ (𝓢 : Service) where
     -- .. and is behind it as long as that send waits, unless its own slot aborts
     pub not-overtaken : (v u : Waiter 𝓢) → Before v u (w .line) → meets (u .message) (v .message) ≡ true → (cs : List (Call Request))
         → All (λ c. c ≡ abort (u .slot) → ⊥) cs → Throughout (λ z. List·Memᴰ v (z .line)) w cs → Before v u (later w cs .line)
+    -- no circle of waits; so where some transaction is open, some open slot does not wait
+    pub no-circle : NoCircle 𝓢 w
+    pub someone-goes-on : (t : ℕ) (y : Transaction 𝓢) → w .slots t ≡ opened y → Unblocked 𝓢 w
+    -- 42 is given only for a send by which its slot would wait for itself, and for every one: a send that joins the line does not ..
+    pub only-circles : (s : ℕ) (q : Request) → call 𝓢 w (send s q) .0 ≡ refuse 42
+        → (m : Message) × (find q ≡ some m) × Leads (waitsFor 𝓢 (joined 𝓢 w s m)) s s
+    pub every-circle : (s : ℕ) (q : Request) (k : ℕ) → let (a, w′) = call 𝓢 w (send s q) in a ≡ held k → Leads (waitsFor 𝓢 w′) s s → ⊥
+    -- .. it changes nothing, and is never given for a send of a closed slot
+    pub circle-same : (s : ℕ) (q : Request) → let (a, w′) = call 𝓢 w (send s q) in a ≡ refuse 42 → w′ ≡ w
+    pub not-on-closed : (s : ℕ) (q : Request) → w .slots s ≡ closed → call 𝓢 w (send s q) .0 ≡ refuse 42 → ⊥
 
 module _ (𝓢 : Service) (𝓛 : Laws 𝓢) where
   open Service 𝓢 using (Fields, Request, Message, clash, meets, find, holds)
   open Laws 𝓛 using (Ok, clash-none)
 
   module _ (w : World 𝓢) (x : Course 𝓢) (g : Known 𝓢 𝓛 w x) where
-    -- A slot that blocks a send is open.
-    blocks-open : (v : Waiter 𝓢) (k : ℕ) → Blocks 𝓢 (w .slots) (w .line) v k → w .slots k ≡ closed → ⊥
-    blocks-open v k (holder ne c) q = false≢true (sym (clash-none (v .message)) ∙ sym (ap (λ z. clash (v .message) (heldBy 𝓢 z)) q) ∙ c)
-    blocks-open v k (ahead ne u b e m) q =
-        let r = g .each u (before-in b .0) in open-closed 𝓢 (r .transaction) (sym (r .is-open) ∙ ap (w .slots) e ∙ q)
-
-    -- The send of a waiting slot.
-    waiter-of : (s : ℕ) → waits 𝓢 (w .line) s ≡ true → (v : Waiter 𝓢) × List·Memᴰ v (w .line) × (v .slot ≡ s)
-    waiter-of s e = let (v, i, q) = any-member (λ v. eqb (v .slot) s) (w .line) e in (v, i, eqb-true (v .slot) s q)
-
-    -- A send that waits after a call waited before it, or the call added it.
-    abbrev Stayed : Call Request → World 𝓢 → Waiter 𝓢 → Type 0
-    Stayed c w′ v =
-        Stays 𝓢 𝓛 (λ k. c ≡ abort k) (w .slots) (w .line) (w′ .slots) (w′ .line) v
-        ⊎ ((v .slot ≡ slotOf 𝓢 c) × ((u : Waiter 𝓢) → List·Memᴰ u (w .line) → u .slot ≡ slotOf 𝓢 c → ⊥))
-
-    stayed : (c : Call Request) {w′ : World 𝓢} → Next 𝓢 𝓛 w c w′ → (v : Waiter 𝓢) → List·Memᴰ v (w′ .line) → Stayed c w′ v
-    stayed c (leaves w′ l) v i = inl (l v i)
-    stayed c (adds m away) v i = go (joined-less 𝓢 𝓛 w x g (slotOf 𝓢 c) away m _ v i)
-      where
-        go : Stays 𝓢 𝓛 (λ k. c ≡ abort k) (w .slots) (w .line) (joined 𝓢 w (slotOf 𝓢 c) m .slots) (joined 𝓢 w (slotOf 𝓢 c) m .line) v
-            ⊎ (v ≡ record { slot = slotOf 𝓢 c; message = m }) → Stayed c (joined 𝓢 w (slotOf 𝓢 c) m) v
-        go (inl h) = inl h
-        go (inr h) = inr (ap (λ z. z .slot) h, away)
-
     -- ---- no send is overtaken
 
     not-granted : (s : ℕ) (q : Request) (m : Message) → find q ≡ some m → (v : Waiter 𝓢) → List·Memᴰ v (w .line) → (v .slot ≡ s → ⊥)
@@ -159,8 +146,9 @@ module _ (𝓢 : Service) (𝓛 : Laws 𝓢) where
         free m′ e (inr o) = true≢false (sym c ∙ sym (ap (λ n. meets n (v .message)) e) ∙ no-send 𝓢 𝓛 w s m′ o v i ne (g .each v i .below))
 
         go : {y : Answer × World 𝓢} → Move 𝓢 w (send s q) y → y .0 ≡ done → ⊥
-        go (refused c₀ n low) d = let z : _≡_ {A = ℕ} 0 1 = cc in omega arith
-        go (joins s₀ q₀ m′ k a h′ o) d = let z : _≡_ {A = ℕ} 0 1 = cc in omega arith
+        go (refused c₀ n r l) d = let z : _≡_ {A = ℕ} 0 1 = cc in omega arith
+        go (closes-circle s₀ q₀ m′ k a h′ o b) d = let z : _≡_ {A = ℕ} 0 1 = cc in omega arith
+        go (joins s₀ q₀ m′ k a h′ o b) d = let z : _≡_ {A = ℕ} 0 1 = cc in omega arith
         go (starts s₀ q₀ m′ a k) d = free m′ (let f′ = a .found in let z : _≡_ {A = Message} m′ m = cc in z) k
 
     joins-behind : (s : ℕ) (q : Request) (m : Message) (k : ℕ) → find q ≡ some m → let (a, w′) = call 𝓢 w (send s q) in a ≡ held k
@@ -168,18 +156,19 @@ module _ (𝓢 : Service) (𝓛 : Laws 𝓢) where
     joins-behind s q m k f d v i = go (moves 𝓢 w (send s q)) d
       where
         go : {y : Answer × World 𝓢} → Move 𝓢 w (send s q) y → y .0 ≡ held k → Before v (record { slot = s; message = m }) (y .1 .line)
-        go (refused c₀ n low) d = absurd (let z : _≡_ {A = ℕ} 0 1 = cc in omega arith)
+        go (refused c₀ n r l) d = absurd (let z : _≡_ {A = ℕ} 0 1 = cc in omega arith)
+        go (closes-circle s₀ q₀ m′ k′ a h o b) d = absurd (let z : _≡_ {A = ℕ} 0 1 = cc in omega arith)
         go (starts s₀ q₀ m′ a h) d = absurd (let z : _≡_ {A = ℕ} 0 1 = cc in omega arith)
-        go (joins s₀ q₀ m′ k′ a h o) d =
+        go (joins s₀ q₀ m′ k′ a h o b) d =
             let same : m′ ≡ m = (let f′ = a .found in cc) in
             subst (λ n. Before v (record { slot = s; message = n }) (w .line ++ (record { slot = s; message = m′ } ∷ []))) same
             (before-across (w .line) i (List·Memᴰ·head refl))
 
     one-call : (c : Call Request) (v u : Waiter 𝓢) → Before v u (w .line) → meets (u .message) (v .message) ≡ true → (c ≡ abort (u .slot) → ⊥)
         → List·Memᴰ v (call 𝓢 w c .1 .line) → Before v u (call 𝓢 w c .1 .line)
-    one-call c v u b m ne i = go (stayed c (call-keeps 𝓢 𝓛 w x g c .1) v i)
+    one-call c v u b m ne i = go (stayed 𝓢 𝓛 w x g c (call-keeps 𝓢 𝓛 w x g c .1) v i)
       where
-        go : Stayed c (call 𝓢 w c .1) v → Before v u (call 𝓢 w c .1 .line)
+        go : Stayed 𝓢 𝓛 w x g c (call 𝓢 w c .1) v → Before v u (call 𝓢 w c .1 .line)
         go (inl s) = s .order u ne b m
         go (inr h) = absurd (h .1 v (before-in b .0) (h .0))
 
@@ -199,7 +188,7 @@ module _ (𝓢 : Service) (𝓛 : Laws 𝓢) where
 
   -- It does: some slot blocks it, and a call leaves it blocked by no more slots.
   leaves-line : (w : World 𝓢) (x : Course 𝓢) → Known 𝓢 𝓛 w x → (cs : List (Call Request)) (v : Waiter 𝓢) → Blocked w cs v
-  leaves-line w x g [] v i h = let s = g .stuck v i in absurd (blocks-open w x g v (s .0) (s .2) (h (s .0) (s .2)))
+  leaves-line w x g [] v i h = let s = g .stuck v i in absurd (blocks-open 𝓢 𝓛 w x g v (s .0) (s .2) (h (s .0) (s .2)))
   leaves-line w x g (c ∷ cs) v i h =
       let y = call 𝓢 w c in
       let k = call-keeps 𝓢 𝓛 w x g c in
@@ -207,10 +196,10 @@ module _ (𝓢 : Service) (𝓛 : Laws 𝓢) where
     where
       wait : (k : ℕ) → Blocks 𝓢 (w .slots) (w .line) v k → (w .slots k ≡ closed) ⊎ Closes 𝓢 k (call 𝓢 w c .1) cs
           → Closes 𝓢 k (call 𝓢 w c .1) cs
-      wait k b (inl q) = absurd (blocks-open w x g v k b q)
+      wait k b (inl q) = absurd (blocks-open 𝓢 𝓛 w x g v k b q)
       wait k b (inr q) = q
 
-      still : (u : Waiter 𝓢) → List·Memᴰ u (call 𝓢 w c .1 .line) → u .slot ≡ v .slot → Stayed w x g c (call 𝓢 w c .1) u
+      still : (u : Waiter 𝓢) → List·Memᴰ u (call 𝓢 w c .1 .line) → u .slot ≡ v .slot → Stayed 𝓢 𝓛 w x g c (call 𝓢 w c .1) u
           → Blocked (call 𝓢 w c .1) cs v → Leaves 𝓢 (v .slot) (call 𝓢 w c .1) cs
       still u j q (inr n) rec = absurd (n .1 v i (sym q ∙ n .0))
       still u j q (inl s) rec =
@@ -225,8 +214,8 @@ module _ (𝓢 : Service) (𝓛 : Laws 𝓢) where
           → Next 𝓢 𝓛 w c (call 𝓢 w c .1) → Blocked (call 𝓢 w c .1) cs v → Leaves 𝓢 (v .slot) (call 𝓢 w c .1) cs
       go false e g′ n rec = now 𝓢 (λ z. waits 𝓢 (z .line) (v .slot) ≡ false) (call 𝓢 w c .1) cs e
       go true e g′ n rec =
-          let (u, j, q) = waiter-of (call 𝓢 w c .1) (fed 𝓢 x c (call 𝓢 w c .0)) g′ (v .slot) e in
-          still u j q (stayed w x g c n u j) rec
+          let (u, j, q) = waiter-of 𝓢 𝓛 (call 𝓢 w c .1) (fed 𝓢 x c (call 𝓢 w c .0)) g′ (v .slot) e in
+          still u j q (stayed 𝓢 𝓛 w x g c n u j) rec
 
   -- A send that joins is blocked by the slots that it clashed with.
   in-time : (w : World 𝓢) (x : Course 𝓢) → Known 𝓢 𝓛 w x → (s : ℕ) (q : Request) (m : Message) (k : ℕ) → find q ≡ some m
@@ -238,9 +227,10 @@ module _ (𝓢 : Service) (𝓛 : Laws 𝓢) where
       go : {y : Answer × World 𝓢} → Move 𝓢 w (send s q) y → {x′ : Course 𝓢} → Known 𝓢 𝓛 (y .1) x′ → y .0 ≡ held k
           → ((j : ℕ) → inTheWay 𝓢 (w .slots) (w .line) s m j ≡ true → Closes 𝓢 j (y .1) cs)
           → Leaves 𝓢 s (y .1) cs
-      go (refused c₀ n low) g′ d′ h′ = absurd (let z : _≡_ {A = ℕ} 0 1 = cc in omega arith)
+      go (refused c₀ n r low) g′ d′ h′ = absurd (let z : _≡_ {A = ℕ} 0 1 = cc in omega arith)
+      go (closes-circle s₀ q₀ m′ k′ a l o e) g′ d′ h′ = absurd (let z : _≡_ {A = ℕ} 0 1 = cc in omega arith)
       go (starts s₀ q₀ m′ a l) g′ d′ h′ = absurd (let z : _≡_ {A = ℕ} 0 1 = cc in omega arith)
-      go (joins s₀ q₀ m′ k′ a l o) {x′} g′ d′ h′ =
+      go (joins s₀ q₀ m′ k′ a l o e) {x′} g′ d′ h′ =
           leaves-line (joined 𝓢 w s m′) x′ g′ cs v (Memᴰ·append-right (w .line) (List·Memᴰ·head refl)) (λ j b. h′ j
           (subst (λ n. inTheWay 𝓢 (w .slots) (w .line) s n j ≡ true) same
           (blocks-way 𝓢 (w .slots) (w .line) (joined 𝓢 w s m′ .line) v j ahead-of (blocks-as 𝓢 _ (w .slots) _ (joined 𝓢 w s m′ .line) v j
@@ -264,11 +254,19 @@ module _ (𝓢 : Service) (𝓛 : Laws 𝓢) where
 
   pub line-kept : (F : Fields) → Ok F → (cs : List (Call Request)) → Promised 𝓢 (both 𝓢 (fresh 𝓢 F) (startCourse 𝓢 F) cs .0)
   line-kept F ok cs =
-      let g = both-keeps 𝓢 𝓛 (fresh 𝓢 F) (startCourse 𝓢 F) (start-known 𝓢 𝓛 F ok) cs in
+      let start = start-known 𝓢 𝓛 F ok in
+      let g = both-keeps 𝓢 𝓛 (fresh 𝓢 F) (startCourse 𝓢 F) start cs in
+      let clear = stays-clear 𝓢 𝓛 (fresh 𝓢 F) (startCourse 𝓢 F) start (start-clear 𝓢 𝓛 F) cs in
       record {
         none-could-start = g .stuck;
         in-time = in-time _ _ g;
         not-granted = not-granted _ _ g;
         joins-behind = joins-behind _ _ g;
         not-overtaken = not-overtaken _ _ g;
+        no-circle = clear;
+        someone-goes-on = someone-goes-on 𝓢 𝓛 _ _ g clear;
+        only-circles = only-circles 𝓢 _;
+        every-circle = every-circle 𝓢 𝓛 _ _ g;
+        circle-same = circle-same 𝓢 _;
+        not-on-closed = not-on-closed 𝓢 𝓛 _ _ g;
       }

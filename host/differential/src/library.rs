@@ -122,6 +122,7 @@ fn refused(refusal: Refusal) -> Answer {
         Refusal::NotRunning => 35,
         Refusal::NothingThere => 36,
         Refusal::Waiting => 37,
+        Refusal::Circle => 42,
     })
 }
 

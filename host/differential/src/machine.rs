@@ -1,5 +1,6 @@
 //! Call lists: a machine beside the second implementation, each call's answer, all fields after it, what is kept of each slot and of the
-//! line; the plain course; and after every call what the tablets saw (document 02, Ticket 4) and the promises of the line (Ticket 7).
+//! line; the plain course; and after every call what the tablets saw (document 02, Ticket 4) and the promises of the line (Tickets
+//! 7 and 8).
 
 use generate::calls::Caller;
 use generate::Random;
@@ -105,7 +106,7 @@ pub fn make<M: Machine + ?Sized>(machine: &mut M, call: Call) -> Answer {
 
 /// How often each call was answered in which way (`step answer`, `send 40`, and on a closed slot `first send 40`), how often values were
 /// put back, how often so many slots were adding to one field at once (`2 adding`), and what was undone then; how many waited (`3
-/// waiting`) and started by a call (`2 woken`), and what else befell those who wait.
+/// waiting`) and started by a call (`2 woken`), of how many slots a circle would be (`circle of 3`), and what else befell those who wait.
 pub type Counts = BTreeMap<String, u64>;
 
 /// The counts of several lists together.
@@ -217,7 +218,7 @@ impl<'a> List<'a> {
 
     /// The promises of the line, and what befell those who wait.
     fn watch(&mut self, call: Call, answer: Answer, line: &[u32]) {
-        let Seen { broken, woken, passed, withdrawn, excepted, behind_waiters } = self.watch.saw(call, answer, line);
+        let Seen { broken, woken, passed, withdrawn, excepted, behind_waiters, circle, by_waiters } = self.watch.saw(call, answer, line);
         assert!(broken.is_empty(), "{call:?}, which answered {answer:?}: {broken:?}");
         let stopped = answer == Answer::Stopped;
         for (what, seen) in [
@@ -229,6 +230,8 @@ impl<'a> List<'a> {
             ("withdrawn".into(), withdrawn),
             ("ahead on its own locks".into(), excepted),
             ("behind waiters only".into(), behind_waiters),
+            (format!("circle of {}", circle.unwrap_or(0)), circle.is_some()),
+            ("circle by way of waiters".into(), by_waiters),
         ] {
             if seen {
                 self.count_one(what);

@@ -132,8 +132,12 @@ fn generated_lists() {
         return;
     }
     let has = |counts: &Counts, kind: &str| counts.get(kind).copied().unwrap_or(0);
-    for kind in ["first send ok", "first send 40", "send ok", "send 40", "step 41", "step answer", "commit ok", "abort ok", "put back"] {
+    for kind in ["first send ok", "first send 40", "send ok", "step 41", "step answer", "commit ok", "abort ok", "put back"] {
         assert!(has(&calls, kind) * 100 >= all, "{kind} is rare: {calls:?}");
+        assert!(has(&lists, kind) * 3 >= count, "{kind} is in few lists: {lists:?}");
+    }
+    for kind in ["send 40", "send 42"] {
+        assert!(has(&calls, kind) * 200 >= all, "{kind} is rare: {calls:?}");
         assert!(has(&lists, kind) * 3 >= count, "{kind} is in few lists: {lists:?}");
     }
     for kind in ["first send 36", "send 31", "send 34", "send 36", "step 31", "step 32", "step 35"] {

@@ -1,4 +1,4 @@
-//! What docs/COURSE.md shows is what the programs print: its four boards, and each of its blocks named `printed` or `tables`, which
+//! What docs/COURSE.md shows is what the programs print: its five boards, and each of its blocks named `printed` or `tables`, which
 //! belong to the blocks named `lib` and `calls` above them.
 
 use differential::rehearsal::{printed, Lib};
@@ -9,6 +9,8 @@ const SAMPLE: &str = include_str!("../../../samples/lanes.txt");
 const LEFT: &str = include_str!("../../../samples/left-board.calls");
 const RIGHT: &str = include_str!("../../../samples/right-board.calls");
 const LINE: &str = include_str!("../../../samples/line-board.calls");
+const PAIR: &str = include_str!("../../../samples/pair.txt");
+const CIRCLE: &str = include_str!("../../../samples/circle-board.calls");
 const TALLY: &str = include_str!("../../../samples/tally.txt");
 const TALLY_BOARD: &str = include_str!("../../../samples/tally-board.calls");
 
@@ -45,10 +47,12 @@ fn tables(lib: &str) -> String {
 
 #[test]
 fn boards() {
-    let boards = [(9, 2..4, SAMPLE, LEFT), (9, 5..7, SAMPLE, RIGHT), (10, 2..5, SAMPLE, LINE), (8, 2..5, TALLY, TALLY_BOARD)];
-    for (cells, tablets, lib, calls) in boards {
+    let two = [(9, 2..4, SAMPLE, LEFT), (9, 5..7, SAMPLE, RIGHT)];
+    let others = [(10, 2..5, SAMPLE, LINE), (7, 2..4, PAIR, CIRCLE), (8, 2..5, TALLY, TALLY_BOARD)];
+    for (cells, tablets, lib, calls) in two.into_iter().chain(others) {
         assert_eq!(board(cells, tablets), (calls.into(), rehearsed(lib, calls)));
     }
+    assert_eq!(PAIR, format!("{SAMPLE}object lane2 lane\n"));
     assert!(PAGE.contains(&format!("```lib\n{TALLY}```")), "the page shows another text than samples/tally.txt");
 }
 
@@ -81,6 +85,20 @@ fn line() {
         vec![running, waiting, second.values()[2].to_string()]
     };
     assert_eq!(LINE.lines().map(after).collect::<Vec<_>>(), shown);
+}
+
+/// The last column of the circle's board is which slots wait after each call.
+#[test]
+fn circle() {
+    let library = reference::read(PAIR.as_bytes()).unwrap();
+    let mut second = reference::machine::Machine::start(&library, &library.starting_values()).unwrap();
+    let calls = rows(7).filter(|row| row[1].parse::<u32>().is_ok());
+    let shown: Vec<&str> = calls.map(|row| row[5]).collect();
+    let waiting = |line: &str| {
+        second.call(reference::lines::call(&library, line.as_bytes()).unwrap());
+        second.line.iter().map(|waiter| waiter.slot.to_string()).collect::<Vec<_>>().join(", ")
+    };
+    assert_eq!(CIRCLE.lines().map(waiting).collect::<Vec<_>>(), shown);
 }
 
 #[test]

@@ -1,4 +1,4 @@
-//! Sends to closed slots (document 02, Tickets 3 and 7): a granted one opens its slot, one that gets 40 opens it and waits, one that gets
+//! Sends to closed slots (document 02, Tickets 3, 7 and 8): a granted one opens its slot, one that gets 40 opens it and waits, one that gets
 //! 36 leaves it closed and alters nothing. Memory looks at all words after each call.
 
 use differential::altered::Memory;
@@ -110,7 +110,7 @@ fn held() {
     }
 }
 
-/// 31 before 36 before 40 on a closed slot; on an open one 37 or 34 before 36 and 40.
+/// 31 before 36 before 40 on a closed slot; on an open one 37 or 34 before 36, and 36 before 40 and 42.
 #[test]
 fn order_of_the_tests() {
     let mut memory = Memory::started(&text(), &VALUES);
@@ -130,6 +130,16 @@ fn order_of_the_tests() {
     waits(&mut memory, 5);
     assert_eq!(memory.call(send(6, Target::Object(0), SHOT)), Answer::Held(2));
     waits(&mut memory, 6);
+    // Slot 6 waits for slot 2, and a tune of slot 2 would wait for slot 6.
+    assert_eq!(memory.call(send(2, Target::Object(0), TUNE)), Answer::Refused(34));
+    finish(&mut memory, 2);
+    assert_eq!(memory.call(nobody(2)), Answer::Refused(36));
+    let before = (memory.state().to_vec(), memory.values().to_vec());
+    for _ in 0..2 {
+        assert_eq!(memory.call(send(2, Target::Object(0), TUNE)), Answer::Refused(42));
+    }
+    assert!((memory.state(), memory.values()) == (&before.0[..], &before.1[..]), "42 altered something");
+    assert_eq!(memory.call(send(2, Target::Domain(RUN), SHOT)), Answer::Done);
 }
 
 /// A transaction of one send in each slot, to each kind of target; then its slot is closed, and the next send opens it again.
@@ -193,7 +203,7 @@ fn crowded_lists() {
     }
     let made = |kind: &str| calls.get(kind).copied().unwrap_or(0);
     assert!(made("first send 40") * 2 > made("first send ok"), "few first sends clash: {calls:?}");
-    for kind in ["first send 36", "send ok", "send 40", "send 37", "step 32", "step 37", "commit 32", "commit 37", "abort 32"] {
+    for kind in ["first send 36", "send ok", "send 40", "send 42", "send 37", "step 32", "step 37", "commit 32", "commit 37", "abort 32"] {
         assert!(made(kind) >= count / 2, "{kind} is rare: {calls:?}");
     }
 }

@@ -62,7 +62,8 @@ static void machine(void) {
     printf("commit %u %u\n", number, detail);
 }
 
-/* Two slots add to one field side by side, a third that reads it waits for both; one is aborted, and the other's addition stays. */
+/* Two slots add to one field side by side, a third that reads it waits for both; one is aborted, and the other's addition stays. A send
+ * of the other to all lanes would wait behind the third: a circle. When it has committed the third starts. */
 static void tallies(void) {
     uint32_t values[2] = {7, 1};
     uint32_t detail = 99;
@@ -80,6 +81,14 @@ static void tallies(void) {
     printf("send %u %u\n", number, detail);
     number = cishmolaq_abort(LENT, 0, &detail);
     printf("abort %u %u: %u %u\n", number, detail, values[0], values[1]);
+    number = cishmolaq_step(LENT, 2, &detail);
+    printf("step %u %u: %u %u\n", number, detail, values[0], values[1]);
+    number = cishmolaq_step(LENT, 1, &detail);
+    printf("step %u %u: %u %u\n", number, detail, values[0], values[1]);
+    number = cishmolaq_send(LENT, 1, CISHMOLAQ_CLASS, 0, 2, 1, &detail);
+    printf("send %u %u\n", number, detail);
+    number = cishmolaq_commit(LENT, 1, &detail);
+    printf("commit %u %u\n", number, detail);
     number = cishmolaq_step(LENT, 2, &detail);
     printf("step %u %u: %u %u\n", number, detail, values[0], values[1]);
 }

@@ -44,6 +44,10 @@ step 1 0: 7 10
 send 40 0
 abort 0 0: 7 11
 step 37 0: 7 11
+step 2 0: 7 11
+send 42 0
+commit 0 0
+step 1 0: 7 11
 ";
 
 fn run(command: &mut Command) -> String {

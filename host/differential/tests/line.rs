@@ -1,20 +1,20 @@
-//! Call lists in which sends wait (document 02, Ticket 7): a slot that holds, three that join and their ends in every order, and generated
-//! lists. After each call the answer, all fields, what is kept of each slot, the line, its promises and Ticket 4 are compared.
+//! Call lists in which sends wait, or would close a circle of waits (document 02, Tickets 7 and 8): a slot that holds, three that join and
+//! their ends in every order, circles of two to eight slots, and generated lists. After each call the answer, all fields, what is kept of
+//! each slot, the line, its promises and Ticket 4 are compared.
 //! CISHMOLAQ_QUEUES sets how many lists are generated.
 
 use differential::library::beside;
 use differential::machine::{added_up, Counts, List};
 use differential::{amount, each_seed};
 use generate::calls::{text_to_call, values_for, Caller};
-use generate::{limits, line, tally, Random};
+use generate::{circle, limits, line, tally, Random};
 use reference::machine::{Answer, Call, Target};
 
-#[test]
-fn every_order_of_ends() {
-    let lists = line::ends();
-    let values = reference::read(line::TEXT).unwrap().starting_values();
+/// Every list of the given ones, on the text's own values.
+fn made(text: &[u8], lists: &[Vec<Call>]) -> Counts {
+    let values = reference::read(text).unwrap().starting_values();
     let counts = added_up(each_seed(lists.len() as u64, |k| {
-        beside(line::TEXT, &values, &mut Random::new(k), |mut list, _| {
+        beside(text, &values, &mut Random::new(k), |mut list, _| {
             for &call in &lists[k as usize] {
                 list.call(call);
             }
@@ -22,6 +22,25 @@ fn every_order_of_ends() {
         })
     }));
     println!("{} lists: {counts:?}", lists.len());
+    counts
+}
+
+#[test]
+fn circles_of_every_size() {
+    let counts = made(circle::TEXT, &circle::of_holders());
+    for slots in 2..=8 {
+        assert!(counts[&format!("circle of {slots}")] >= 16, "{counts:?}");
+    }
+    let counts = made(circle::TEXT, &circle::of_waiters());
+    for slots in [2, 4, 6, 8] {
+        assert!(counts[&format!("circle of {slots}")] >= 4, "{counts:?}");
+    }
+    assert_eq!(counts["circle by way of waiters"], counts["send 42"]);
+}
+
+#[test]
+fn every_order_of_ends() {
+    let counts = made(line::TEXT, &line::ends());
     for kind in ["3 waiting", "1 woken", "2 woken", "3 woken", "woken by a stop", "woken past a waiter", "woken by a withdrawal"] {
         assert!(counts.get(kind).is_some_and(|&times| times > 200), "{kind} is rare: {counts:?}");
     }
@@ -67,9 +86,9 @@ fn seven_wait() {
     }
 }
 
-/// All eight wait, each for the next, until one is aborted: then all start one after another.
+/// Seven wait, each for the next, and the eighth would close the circle; when it is aborted all start one after another.
 #[test]
-fn eight_wait() {
+fn circle_of_eight() {
     let text: String = (0..8).map(|k| format!("object o{k} a\n")).collect();
     let text = format!("class a\nfield x\nmethod m\nset x + x 1\nend\n{text}");
     for first in 0..8 {
@@ -78,16 +97,17 @@ fn eight_wait() {
                 list.call(send(slot, Target::Object(slot), 0));
                 finish(&mut list, slot);
             }
-            for slot in (0..8).map(|k| (k + first) % 8) {
+            for slot in (1..8).map(|k| (k + first) % 8) {
                 assert_eq!(list.call(send(slot, Target::Object((slot + 1) % 8), 0)), Answer::Held((slot + 1) % 8));
             }
+            assert_eq!(list.call(send(first, Target::Object((first + 1) % 8), 0)), Answer::Refused(42));
             for slot in (0..8).map(|k| (first + 8 - k) % 8) {
                 let aborted = slot == first;
                 finish(&mut list, slot);
                 assert_eq!(list.call(if aborted { Call::Abort(slot) } else { Call::Commit(slot) }), Answer::Done);
             }
             let counts = list.end();
-            assert!(counts["8 waiting"] > 0 && counts["1 woken"] == 7 && counts["withdrawn"] == 1, "{counts:?}");
+            assert!(counts["7 waiting"] > 0 && counts["1 woken"] == 7 && counts["circle of 8"] == 1, "{counts:?}");
             counts
         });
     }
@@ -122,14 +142,18 @@ fn largest() {
 /// One generated list.
 fn generated(seed: u64) -> Counts {
     let mut random = Random::new(seed + 13_000_000);
-    let text = if seed % 4 == 3 { text_to_call(&mut random) } else { tally::text(&mut random) };
+    let text = match seed % 4 {
+        3 => text_to_call(&mut random),
+        2 => circle::text(&mut random),
+        _ => tally::text(&mut random),
+    };
     let library = reference::read(&text).expect("an accepted text");
     let values = values_for(&mut random, &library);
     let made = std::panic::catch_unwind(|| {
         let mut random = Random::new(seed + 14_000_000);
         beside(&text, &values, &mut random, |list, random| {
-            let caller = Caller::queueing(random, &library);
-            list.made_by(caller, random, 100)
+            let caller = if seed % 4 == 2 { Caller::circling } else { Caller::queueing };
+            list.made_by(caller(random, &library), random, 100)
         })
     });
     made.unwrap_or_else(|_| panic!("seed {seed} differs, values {values:?}, text:\n{}", String::from_utf8_lossy(&text)))
@@ -151,13 +175,18 @@ fn generated_lists() {
         ("1 woken", count),
         ("2 woken", count / 4),
         ("3 woken", count / 20),
-        ("4 woken", count / 50),
+        ("4 woken", count / 100),
         ("woken by a stop", count / 10),
-        ("woken by a withdrawal", count / 2),
+        ("woken by a withdrawal", count / 5),
         ("woken past a waiter", count / 10),
         ("withdrawn", count),
         ("ahead on its own locks", count / 4),
         ("behind waiters only", count),
+        ("send 42", count),
+        ("circle of 2", count),
+        ("circle of 3", count / 10),
+        ("circle of 4", count / 100),
+        ("circle by way of waiters", count / 2),
         ("step 37", count),
         ("send 37", count / 4),
         ("commit 37", count / 4),

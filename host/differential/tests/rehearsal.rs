@@ -165,6 +165,12 @@ const ANSWERS: &[(&str, &str)] = &[
     ("step 2", "37"),
     ("send 3 lane1 tune 2", "34"),
     ("step 3", "going"),
+    ("step 3", "answer 0"),
+    ("send 3 lane1 shot 1", "42"),
+    ("send 3 nobody shot 1", "36"),
+    ("all 3 lane tune 1", "42"),
+    ("all 3 lane tune 01", "51"),
+    ("step 2", "37"),
     ("all 5 run shot 1", "ok"),
     ("step 5", "answer 0"),
 ];
@@ -350,7 +356,7 @@ fn generated_lists() {
     if count < 300 {
         return;
     }
-    for word in ["ok", "going", "answer", "31", "32", "34", "35", "36", "37", "40", "41", "51"] {
+    for word in ["ok", "going", "answer", "31", "32", "34", "35", "36", "37", "40", "41", "42", "51"] {
         assert!(answers.get(word).copied().unwrap_or(0) >= count / 2, "{word} is rare: {answers:?}");
     }
 }

@@ -27,6 +27,8 @@ enum Fault {
     GrantedSendLeavesClosed,
     HeldSendLeavesClosed,
     RefusedSendOpens,
+    CircleToldAsHeld,
+    HeldToldAsCircle,
 }
 
 #[derive(Clone)]
@@ -52,6 +54,8 @@ impl Machine for Faulty<'_> {
         let answer = Machine::send(&mut self.machine, slot, target, method, argument);
         match (self.fault, answer) {
             (Fault::HeldByTheWrongSlot, Answer::Held(by)) => return Answer::Held((by + 1) % 8),
+            (Fault::CircleToldAsHeld, Answer::Refused(42)) => return Answer::Held(0),
+            (Fault::HeldToldAsCircle, Answer::Held(_)) => return Answer::Refused(42),
             (Fault::GrantedSendLeavesClosed, Answer::Done) if first => drop(Machine::abort(&mut self.machine, slot)),
             (Fault::HeldSendLeavesClosed, Answer::Held(_)) if first => drop(Machine::abort(&mut self.machine, slot)),
             (Fault::RefusedSendOpens, answer) if first => self.opened[slot as usize] = answer == Answer::Refused(36),
@@ -131,6 +135,8 @@ fn faults_are_seen() {
         Fault::GrantedSendLeavesClosed,
         Fault::HeldSendLeavesClosed,
         Fault::RefusedSendOpens,
+        Fault::CircleToldAsHeld,
+        Fault::HeldToldAsCircle,
     ];
     let none = seen(Fault::None);
     let counts: Vec<(Fault, usize)> = faults.into_iter().map(|fault| (fault, seen(fault))).collect();

@@ -94,7 +94,7 @@ fn generated_lists() {
         ("undone add after set", count / 50),
         ("step 41", count / 20),
         ("first send 40", count / 4),
-        ("send 40", count / 4),
+        ("send 40", count / 8),
         ("commit ok", count / 2),
         ("abort ok", count),
     ] {

@@ -88,6 +88,8 @@ pub struct Caller {
     /// What each slot's transaction has sent, and whether it likes to send that again, to the same target or to another.
     sent: [Vec<(Target, u32)>; 8],
     repeats: bool,
+    /// It rarely ends a transaction that could go on.
+    keeps: bool,
 }
 
 fn any_target(random: &mut Random, library: &Library) -> Target {
@@ -136,7 +138,7 @@ impl Caller {
     }
 
     fn with(slots: usize, patience: usize, liked: Vec<(Target, Vec<u32>)>) -> Caller {
-        Caller { phases: [Phase::Closed; 8], slots, patience, liked, sent: Default::default(), repeats: false }
+        Caller { phases: [Phase::Closed; 8], slots, patience, liked, sent: Default::default(), repeats: false, keeps: false }
     }
 
     /// One that uses all slots and likes one target: most of its first sends clash.
@@ -156,6 +158,17 @@ impl Caller {
         let targets = [Target::Object(object as u32), other, Target::Class(class), Target::Domain(class), Target::Domain(0)];
         let liked = targets.into_iter().map(|target| with_all(library, target)).collect();
         Caller { repeats: true, ..Caller::with(4 + random.below(5), 2 + random.below(5), liked) }
+    }
+
+    /// One that likes the single objects, and whose transactions go from one to another: circles of waits are often close.
+    pub fn circling(random: &mut Random, library: &Library) -> Caller {
+        let objects = (0..library.objects.len() as u32).map(|object| with_all(library, Target::Object(object)));
+        let liked: Vec<_> = objects.filter(|(_, methods)| !methods.is_empty()).collect();
+        if liked.is_empty() {
+            return Caller::new(random, library);
+        }
+        let slots = if random.one_in(2) { 8 } else { 2 + random.below(6) };
+        Caller { keeps: true, ..Caller::with(slots, 3 + random.below(4), liked) }
     }
 
     /// One that likes an object, its class and its domain, and the methods that add to a field: several slots add to one at once. With
@@ -208,7 +221,7 @@ impl Caller {
             }
             return Call::Send { slot, target, method, argument: random.edge() };
         }
-        let any = random.one_in(3).then(|| with_all(library, target(random, library)));
+        let any = random.one_in(if self.keeps { 12 } else { 3 }).then(|| with_all(library, target(random, library)));
         let (target, methods) = any.as_ref().unwrap_or_else(|| random.pick(&self.liked));
         let method = methods.get(random.below(methods.len())).copied().unwrap_or(0);
         Call::Send { slot, target: *target, method, argument: random.edge() }
@@ -250,9 +263,9 @@ impl Caller {
                 2 => Call::Abort(slot),
                 _ => self.send(random, library, slot),
             },
-            Phase::Running if random.one_in(4) => Call::Abort(slot),
+            Phase::Running if random.one_in(if self.keeps { 30 } else { 4 }) => Call::Abort(slot),
             Phase::Running => Call::Step(slot),
-            Phase::Waiting => match random.below(12) {
+            Phase::Waiting => match random.below(if self.keeps { 60 } else { 12 }) {
                 0 | 1 => Call::Abort(slot),
                 2 => Call::Commit(slot),
                 3 => self.send(random, library, slot),
@@ -260,7 +273,7 @@ impl Caller {
                 // Rather somebody else.
                 _ => self.next(random, library),
             },
-            Phase::Open => match random.below(8) {
+            Phase::Open => match random.below(if self.keeps { 20 } else { 8 }) {
                 0 | 1 => Call::Commit(slot),
                 2 => Call::Abort(slot),
                 _ => self.send(random, library, slot),

@@ -1,6 +1,7 @@
 //! Class texts and call lists made at random from a seed.
 
 pub mod calls;
+pub mod circle;
 pub mod damage;
 pub mod limits;
 pub mod line;

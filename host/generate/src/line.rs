@@ -47,7 +47,7 @@ fn send(slot: u32, (target, method): (Target, u32)) -> Call {
 }
 
 /// All orders of these.
-fn orders(of: &[u32]) -> Vec<Vec<u32>> {
+pub fn orders(of: &[u32]) -> Vec<Vec<u32>> {
     if of.is_empty() {
         return vec![Vec::new()];
     }

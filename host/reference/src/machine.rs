@@ -339,6 +339,24 @@ impl<'a> Machine<'a> {
         (0..8).filter(|&other| other != slot && (holds(other) || waits(other))).collect()
     }
 
+    /// The slots that a slot waits for: those that hold a lock that clashes with its waiting send, and those that wait ahead of it with a
+    /// send that does.
+    pub fn waits_for(&self, slot: u32) -> Vec<u32> {
+        let waiting = self.line.iter().position(|waiter| waiter.slot == slot);
+        waiting.map_or(Vec::new(), |place| self.in_the_way(slot, &self.line[place].message, place))
+    }
+
+    /// Whether a slot that does not wait would wait for itself, by way of any others, with this send as the last in line.
+    pub fn closes_a_circle(&self, slot: u32, message: &Message) -> bool {
+        let (mut reached, mut next) = (HashSet::new(), self.in_the_way(slot, message, self.line.len()));
+        while let Some(other) = next.pop() {
+            if reached.insert(other) {
+                next.extend(self.waits_for(other));
+            }
+        }
+        reached.contains(&slot)
+    }
+
     /// The slot's open transaction got every lock of the message by an earlier send.
     pub fn holds(&self, slot: u32, message: &Message) -> bool {
         let held = |lock: &Lock| self.slots[slot as usize].iter().any(|t| t.locks.contains(lock));
@@ -403,7 +421,7 @@ impl<'a> Machine<'a> {
     }
 
     /// A send opens its slot where that is closed: it starts, or it joins the line and is told the lowest slot that it clashes with. One
-    /// whose locks its slot holds starts whoever waits. 36 alters nothing.
+    /// whose locks its slot holds starts whoever waits. 36, and 42 in place of joining, alter nothing.
     fn send(&mut self, slot: u32, target: Target, method: u32, argument: u32) -> Answer {
         let message = match message(self.library, target, method, argument) {
             Some(message) => message,
@@ -411,6 +429,9 @@ impl<'a> Machine<'a> {
         };
         let in_the_way = self.in_the_way(slot, &message, self.line.len());
         if let (Some(&lowest), false) = (in_the_way.first(), self.holds(slot, &message)) {
+            if self.closes_a_circle(slot, &message) {
+                return Answer::Refused(42);
+            }
             self.open(slot);
             self.line.push(Waiter { slot, message });
             return Answer::Held(lowest);

@@ -1,4 +1,4 @@
-//! The line of waiting sends (document 02, Ticket 7) in the second implementation, rule by rule; after each call the watch says
+//! The line of waiting sends (document 02, Tickets 7 and 8) in the second implementation, rule by rule; after each call the watch says
 //! that the promises are kept.
 
 use reference::machine::{Answer, Call, Machine, Target};
@@ -223,16 +223,18 @@ fn own_locks() {
             list.machine.call(Call::Step(3));
         }
         list.send(1, RUNS, PUT, Held(3));
-        let right = if excepted { Done } else { Held(1) };
+        // Behind the waiter it would wait for its own slot's locks (Ticket 8).
+        let right = if excepted { Done } else { Refused(42) };
         assert_eq!(list.send(3, again, LOOK, right).excepted, excepted, "{first:?}, then {again:?}");
     }
-    // With a lock of another method it joins.
+    // A lock of another method is not excepted either.
     let mut list = List::start(&library);
     list.send(3, LANE1, LOOK, Done);
     list.finish(3, 1);
     list.send(1, LANE1, PUT, Held(3));
-    list.send(3, LANE1, PUT, Held(1));
+    list.send(3, LANE1, PUT, Refused(42));
     list.call(Call::Abort(1), Done);
+    list.send(3, LANE1, PUT, Done);
     list.finish(3, 0);
 }
 
@@ -254,21 +256,92 @@ fn waiters_hold_locks() {
     list.finish(0, 15);
 }
 
-/// Slots that wait for each other wait until one is aborted.
+/// Eight lanes, so that a circle may go by way of every slot.
+fn lanes() -> Library {
+    let objects: String = (0..8).map(|lane| format!("object lane{lane} lane {lane}\n")).collect();
+    let class = "class lane\nfield focus\nmethod put\nset focus arg\nend\nmethod look\nreply focus\nend\n";
+    reference::read(format!("{class}{objects}").as_bytes()).unwrap()
+}
+
+/// Slots put each to its own lane and then to the next one's: the last to do so would close the circle. It is told 42 and keeps what it
+/// has; when it is aborted the one that waits for it starts.
 #[test]
-fn a_circle() {
-    let library = library();
+fn circles() {
+    let library = lanes();
+    for many in 2..=8 {
+        let mut list = List::start(&library);
+        for slot in 0..many {
+            list.send(slot, Target::Object(slot), PUT, Done);
+            list.finish(slot, 0);
+        }
+        for slot in 0..many - 1 {
+            list.send(slot, Target::Object(slot + 1), PUT, Held(slot + 1));
+        }
+        let (line, values) = (list.line(), list.machine.values());
+        let last = many - 1;
+        for _ in 0..2 {
+            assert_eq!(list.send(last, Target::Object(0), PUT, Refused(42)).circle, Some(many as usize));
+            assert_eq!((list.line(), list.machine.values()), (line.clone(), values.clone()));
+        }
+        // A send that its slot has the locks for starts all the same, and one that nobody waits behind joins.
+        list.send(last, Target::Object(last), PUT, Done);
+        list.finish(last, 0);
+        if many < 8 {
+            list.send(7, Target::Object(0), PUT, Held(0));
+        }
+        let seen = list.call(Call::Abort(last), Done);
+        assert!(!seen.withdrawn && seen.woken == 1, "{many}: {seen:?}");
+        for slot in (0..last).rev() {
+            list.finish(slot, 0);
+            list.call(Call::Commit(slot), Done);
+        }
+        assert_eq!(list.machine.idle(), many == 8);
+    }
+}
+
+/// A slot that is told 42 may wait for somebody else, or go on with another lane.
+#[test]
+fn no_circle() {
+    let library = lanes();
     let mut list = List::start(&library);
-    for (slot, lane) in [(0, LANE1), (1, LANE2)] {
-        list.send(slot, lane, PUT, Done);
+    for (slot, lane) in [(0, 0), (1, 1), (2, 2)] {
+        list.send(slot, Target::Object(lane), PUT, Done);
         list.finish(slot, 0);
     }
-    list.send(0, LANE2, PUT, Held(1));
-    list.send(1, LANE1, PUT, Held(0));
-    assert_eq!(list.line(), [0, 1]);
-    let seen = list.call(Call::Abort(1), Done);
-    assert!(seen.withdrawn && seen.woken == 1);
+    list.send(0, Target::Object(1), PUT, Held(1));
+    list.send(1, Target::Object(0), PUT, Refused(42));
+    list.send(1, Target::Object(2), PUT, Held(2));
+    list.send(2, Target::Object(0), LOOK, Refused(42));
+    list.send(2, Target::Object(1), LOOK, Refused(42));
+    list.send(2, Target::Object(3), LOOK, Done);
+    list.finish(2, 3);
+    assert_eq!(list.call(Call::Commit(2), Done).woken, 1);
+    // Nobody waits for a closed slot: its send joins.
+    for lane in 0..3 {
+        list.send(4 + lane, Target::Object(lane), PUT, Held([0, 0, 1][lane as usize]));
+    }
+}
+
+/// By way of a waiter: nobody holds a lock that the look clashes with, but the put that waits ahead waits for the looking slot itself.
+#[test]
+fn circles_of_fairness() {
+    let library = lanes();
+    let mut list = List::start(&library);
+    list.send(0, Target::Object(0), LOOK, Done);
     list.finish(0, 0);
+    list.send(1, Target::Object(1), LOOK, Done);
+    list.finish(1, 1);
+    list.send(2, Target::Object(1), PUT, Held(1));
+    // The put of lane 0 waits for slot 0; a look at all lanes would wait for it and for slot 2.
+    list.send(3, Target::Object(0), PUT, Held(0));
+    assert!(list.send(0, Target::Class(0), LOOK, Refused(42)).by_waiters);
+    assert!(list.send(1, Target::Class(0), LOOK, Refused(42)).by_waiters);
+    // Slot 0 may wait for slot 2; then slot 1 would wait for itself by way of slots 3, 0 and 2.
+    assert!(list.send(0, Target::Object(1), LOOK, Held(2)).behind_waiters);
+    let seen = list.send(1, Target::Object(0), LOOK, Refused(42));
+    assert_eq!((seen.circle, seen.by_waiters, list.line()), (Some(4), true, vec![2, 3, 0]));
+    list.call(Call::Abort(2), Done);
+    list.finish(0, 1);
     list.call(Call::Commit(0), Done);
-    assert!(list.machine.idle());
+    assert_eq!(list.line(), []);
 }

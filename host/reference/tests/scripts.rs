@@ -49,8 +49,8 @@ fn copy(name: &str) -> PathBuf {
         fs::create_dir_all(copy.join(folder)).unwrap();
     }
     let files = ["crates.txt", "tables.sh", "rehearse.sh", "test.sh", "host/scripts/program.sh"];
-    let boards = ["left", "right", "line", "tally"].map(|board| format!("samples/{board}-board.calls"));
-    let samples = ["samples/lanes.txt", "samples/tally.txt"];
+    let boards = ["left", "right", "line", "circle", "tally"].map(|board| format!("samples/{board}-board.calls"));
+    let samples = ["samples/lanes.txt", "samples/pair.txt", "samples/tally.txt"];
     for file in files.iter().chain(&samples).copied().chain(boards.iter().map(String::as_str)) {
         fs::copy(top().join(file), copy.join(file)).unwrap_or_else(|e| panic!("{file}: {e}"));
     }
@@ -144,6 +144,7 @@ fn rehearse() {
     says(&printed, &["samples/left-board.calls\nsend 0 lane1 shot 40    ok\n", "\n                        lane1 1 0 40\n"]);
     says(&printed, &["samples/right-board.calls\n", "send 1 lane1 tune 5     40 0\n", "\n                        lane1 1 0 45\n"]);
     says(&printed, &["samples/line-board.calls\n", "send 2 lane1 tune 5     40 0\n", "step 2                  37\n"]);
+    says(&printed, &["samples/circle-board.calls\n", "send 1 lane1 tune 5     42\n", "\n                        lane2 0 0 25\n"]);
     says(&printed, &["samples/tally-board.calls\n", "send 2 lane1 plot 0     40 0\n", "\n                        lane1 95\n"]);
 }
 

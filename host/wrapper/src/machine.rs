@@ -39,6 +39,8 @@ pub enum Refusal {
     NothingThere,
     /// 37: the slot's send waits in line.
     Waiting,
+    /// 42: the send would have to wait, and would close a circle of waits.
+    Circle,
 }
 
 /// A send that is not refused.
@@ -71,7 +73,7 @@ pub mod lent {
         Done,
         Going,
         Answer(u32),
-        /// 21, 24, or 31 to 37.
+        /// 21, 24, 31 to 37, or 42.
         Refused(u32),
         /// 40.
         Held(u32),
@@ -123,7 +125,7 @@ pub mod lent {
             let (state, words) = (state.as_mut_ptr(), state.len());
             entries::cishmolaq_send(text.0, text.1, state, words, values.0, values.1, slot, kind, named, method, argument, &mut detail)
         };
-        outcome(number, detail, &[0, 21, 24, 31, 34, 36, 37, 40])
+        outcome(number, detail, &[0, 21, 24, 31, 34, 36, 37, 40, 42])
     }
 
     pub fn step(text: &[u8], state: &mut [u32], values: &mut [u32], slot: u32) -> Outcome {
@@ -162,6 +164,7 @@ fn refusal(answer: Outcome) -> Refusal {
         Outcome::Refused(35) => Refusal::NotRunning,
         Outcome::Refused(36) => Refusal::NothingThere,
         Outcome::Refused(37) => Refusal::Waiting,
+        Outcome::Refused(42) => Refusal::Circle,
         other => panic!("{other:?} of memory that only the machine altered"),
     }
 }
@@ -194,8 +197,8 @@ impl<'a> Machine<'a> {
     }
 
     /// Sends the method at a place of the target's class, and opens the slot where that is closed. If held, the send waits in line
-    /// until those that it clashes with have ended: then it starts by itself, and the slot's next call is not `Waiting`. Gives
-    /// `NoSuchSlot`, `Waiting`, `Running` or `NothingThere`.
+    /// until those that it clashes with have ended: then it starts by itself, and the slot's next call is not `Waiting`. One that would
+    /// wait for its own slot, by way of others, is refused. Gives `NoSuchSlot`, `Waiting`, `Running`, `NothingThere` or `Circle`.
     pub fn send(&mut self, slot: u32, target: Target, method: u32, argument: u32) -> Result<Sent, Refusal> {
         match lent::send(self.text, &mut self.state, self.values, slot, target, method, argument) {
             Outcome::Done => Ok(Sent::Granted),

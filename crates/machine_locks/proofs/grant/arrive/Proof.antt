@@ -1,8 +1,9 @@
--- `arrive` meets its contract: the send starts; or joins the line, and answers 40 with the lowest bit of the mask.
+-- `arrive` meets its contract: the send starts; or closes a circle; or joins the line, and answers with the lowest bit of the mask.
 use borrow.Author.Needs.{needs}
 use Prim.Native.Nat.{ℕ, suc}
 use native.Mathlib.Omega.{arith}
-use mathlib.Core.Path.{refl, ap, _∙_}
+use mathlib.Core.Path.{refl, sym, ap, _∙_}
+use mathlib.Core.Bool.{true, false}
 use mathlib.Core.List.{List}
 use lib.Count.{trailing-le}
 use lib.ListN.{set}
@@ -30,19 +31,35 @@ returns c =
     let n = m .before .before in
     λ values. leaves-as (arrives-free _ _ values _ _ _ _ (n .waiting-count .ensures) (m .clashing .ensures) (i .if1 .taken)) (k .start-send .ensures values)
 
-add-result : tie.Need-add-result
-add-result c = omega (arith, trailing-le 32 (c .before .before .before .before .before .before .clashing .result))
-
 returns-2 : tie.Need-returns-2
 returns-2 c =
+    let o = c .before in
+    let k = o .before .before in
+    let i = k .before in
+    let m = i .before in
+    let n = m .before .before in
+    let b = sym (c .if3 .taken) ∙ o .closes-circle .ensures in
+    λ values. leaves-as (arrives-last _ _ values _ _ _ _ (n .waiting-count .ensures) (m .clashing .ensures) (i .if1 .left) (k .if2 .taken) true b)
+    (leaves-refused _ values 42 (omega arith) (omega arith))
+
+add-result : tie.Need-add-result
+add-result c =
+    let e = c .before .before .before .before in
+    omega (arith, trailing-le 32 (e .before .before .before .before .before .clashing .result))
+
+returns-3 : tie.Need-returns-3
+returns-3 c =
     let j = c .before .before in
-    let k = j .before .before in
+    let e = j .before .before in
+    let o = e .before in
+    let k = o .before .before in
     let i = k .before in
     let m = i .before in
     let n = m .before .before in
     let a = n .before .before .before .before .args in
     let row : List ℕ = waitingRow (a .text .now) (tablesOf (a .state .now)) (asked (a .wanted)) (rowOf (a .state .now) (a .slot)) in
-    λ values. leaves-as (arrives-last _ _ values _ _ _ _ (n .waiting-count .ensures) (m .clashing .ensures) (i .if1 .left) (k .if2 .taken))
+    let b = sym (e .if3 .left) ∙ o .closes-circle .ensures in
+    λ values. leaves-as (arrives-last _ _ values _ _ _ _ (n .waiting-count .ensures) (m .clashing .ensures) (i .if1 .left) (k .if2 .taken) false b)
     (record {
       says = says-held _;
       words-are =
@@ -51,8 +68,8 @@ returns-2 c =
       values-are = refl;
     })
 
-returns-3 : tie.Need-returns-3
-returns-3 c =
+returns-4 : tie.Need-returns-4
+returns-4 c =
     let i = c .before in
     let m = i .before in
     let n = m .before .before in
@@ -69,8 +86,11 @@ arrive-spec =
     (λ c. search needs)
     returns
     (λ c κs. search needs)
-    add-result
     (λ c. search needs)
     returns-2
+    (λ c κs. search needs)
+    add-result
     (λ c. search needs)
-    returns-3)
+    returns-3
+    (λ c. search needs)
+    returns-4)
