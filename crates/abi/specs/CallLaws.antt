@@ -4,18 +4,18 @@ use native.Mathlib.Omega.{arith}
 use mathlib.Core.Path.{_≡_, refl, sym, ap, subst, _∙_}
 use mathlib.Core.Logic.{_⊎_, inl, inr, ⊎-elim}
 use mathlib.Core.Bool.{false}
-use mathlib.Core.List.{List}
 use lib.ListN.{length}
 use lib.Dec.{ltb}
 use borrow.Author.Tests.{eq-eqb, ne-eqb, le-ltb}
+use Rattle.layout.specs.Layout.{stateWords}
 use Rattle.model.specs.Told.{Told}
 use Rattle.model.specs.Service.{callNumber, callDetail}
 use Rattle.model.specs.Machine.{Call, send, to, Target, object, class, domain, startAnswer}
 use Rattle.catalog.specs.View.{objectCount}
-use Rattle.machine_words.specs.Calls.{tablesOf, refused, sentBy}
-use Rattle.machine_checks.specs.declared.Outcome.{Outcome}
-use Rattle.machine_checks.specs.declared.Outcome.the-variants.{Refused}
-use Rattle.machine_checks.specs.Told.{told}
+use Rattle.machine_words.specs.Calls.{Lent, tablesOf, refused, sentBy}
+use Rattle.machine_words.specs.declared.Outcome.{Outcome}
+use Rattle.machine_words.specs.declared.Outcome.the-variants.{Refused}
+use Rattle.machine_words.specs.Said.{told}
 use Rattle.cishmolaq.specs.declared.Answer as Start
 use Rattle.cishmolaq.specs.Answers.{StartLeaves, Begins}
 use Rattle.cishmolaq.specs.Keeps.{Numbered}
@@ -25,23 +25,21 @@ use Rattle.abi.specs.Calls.{targetOf, Called}
 -- ---- start
 
 -- What is left is what the returned answer leaves.
-pub start-leaves : {text values ws : List ℕ} {r : Start.Answer} {after : List ℕ} → Begins text values ws r after
-    → StartLeaves text values ws (startAnswer text (length values) (length ws)) after
-start-leaves {text} {values} {ws} {after = after} h = subst (λ (t : Told). StartLeaves text values ws t after) (h .says) (h .leaves)
+pub start-leaves : {x y : Lent} {r : Start.Answer} → Begins x r y → StartLeaves x (startAnswer stateWords (x .text) (length (x .values)) (length (x .words))) y
+start-leaves {x} {y} h = subst (λ (t : Told). StartLeaves x t y) (h .says) (h .leaves)
 
 -- ---- a call
 
 -- The outcome of an entry, as it is returned.
-pub tells-call : {text ws values : List ℕ} {c : Call} {outcome : Outcome} {r detail : ℕ} {ws′ values′ : List ℕ} → Does text ws values c outcome ws′ values′
-    → r ≡ callNumber (told outcome) → detail ≡ callDetail (told outcome) → Called text ws values c r detail ws′ values′
+pub tells-call : {x y : Lent} {c : Call} {outcome : Outcome} {r detail : ℕ} → Does x c outcome y
+    → r ≡ callNumber (told outcome) → detail ≡ callDetail (told outcome) → Called x c r detail y
 tells-call {outcome = outcome} h n d = record { outcome = outcome; does = h; number = n; beside = d }
 
 -- ---- a target by its kind
 
 -- A send to a target is a send to the target that a kind and a number name.
-pub sent-to : {text ws values : List ℕ} {s k a : ℕ} {t u : Target} {r : Outcome} {ws′ values′ : List ℕ} → Does text ws values (send s (to t k a)) r ws′ values′
-    → t ≡ u → Does text ws values (send s (to u k a)) r ws′ values′
-sent-to {text} {ws} {values} {s} {k} {a} {r = r} {ws′ = ws′} {values′ = values′} h e = subst (λ (t : Target). Does text ws values (send s (to t k a)) r ws′ values′) e h
+pub sent-to : {x y : Lent} {s k a : ℕ} {t u : Target} {r : Outcome} → Does x (send s (to t k a)) r y → t ≡ u → Does x (send s (to u k a)) r y
+sent-to {x} {y} {s} {k} {a} {r = r} h e = subst (λ (t : Target). Does x (send s (to t k a)) r y) e h
 
 module _ (kind n : ℕ) where
   pub to-object : kind ≡ 0 → object n ≡ targetOf kind n
@@ -57,16 +55,17 @@ module _ (kind n : ℕ) where
   to-none a b d = rw (ne-eqb kind 0 a, ne-eqb kind 1 b, ne-eqb kind 2 d) refl
 
   -- A send of any other kind answers 36 where a send to an object is granted, or answers 40 or 36, whatever is lent.
-  pub another-kind : (text ws values : List ℕ) (s k a : ℕ) → 3 ≤ kind → sentBy text ws values s (to (targetOf kind n) k a) ≡ refused ws values 36
-  another-kind text ws values s k a h =
-      let few : objectCount (tablesOf ws) ≤ 64 = omega arith in
-      let none-there : ltb 64 (objectCount (tablesOf ws)) ≡ false = le-ltb 64 (objectCount (tablesOf ws)) few in
+  pub another-kind : (x : Lent) (s k a : ℕ) → 3 ≤ kind → sentBy x s (to (targetOf kind n) k a) ≡ refused x 36
+  another-kind x s k a h =
+      let tables = tablesOf (x .words) in
+      let few : objectCount tables ≤ 64 = omega arith in
+      let none-there : ltb 64 (objectCount tables) ≡ false = le-ltb 64 (objectCount tables) few in
       rw (sym (to-none (λ e. absurd (omega (arith, e, h))) (λ e. absurd (omega (arith, e, h))) (λ e. absurd (omega (arith, e, h)))), none-there) refl
 
 -- ---- numbers
 
 -- A refusal's number is one of 21 to 37, or 42, so the number alone tells what the call answered.
-pub refused-apart : {text ws values : List ℕ} {c : Call} {r detail : ℕ} {ws′ values′ : List ℕ} (h : Called text ws values c r detail ws′ values′)
+pub refused-apart : {x y : Lent} {c : Call} {r detail : ℕ} (h : Called x c r detail y)
     → (n : ℕ) → h .outcome ≡ Refused n → ((21 ≤ r) × (r ≤ 37)) ⊎ (r ≡ 42)
 refused-apart h n e =
     let limits = subst (λ (o : Outcome). Numbered (told o)) e (h .does .number) in

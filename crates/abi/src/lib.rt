@@ -1,18 +1,19 @@
 // The entries of crate `cishmolaq` for C and Rust: `host/include/cishmolaq.h` says what each needs and answers.
 // An answer is a number, 0 where it is done; a length or a line goes through a lent place.
 use cishmolaq::Answer;
-use machine_checks::Outcome;
-use machine_locks::request::Target;
+use machine_words::Outcome;
+use machine_words::Target;
 use reader::Verdict;
 ghost use mathlib.Core.Path.{_≡_};
 ghost use lib.ListN.{length};
+ghost use Rattle.layout.specs.Layout.{stateWords};
 ghost use Rattle.model.specs.Told.{checkAnswer};
 ghost use Rattle.model.specs.Image.{compileAnswer, compiledInto, statementAnswer, valuesAnswer, startingValuesInto};
 ghost use Rattle.model.specs.Tables.{printAnswer, printedInto};
 ghost use Rattle.model.specs.Service.{send, step, commit, abort, callNumber, callDetail};
 ghost use Rattle.model.specs.Machine.{to, startAnswer};
-ghost use Rattle.machine_checks.specs.Told.{told};
-ghost use Rattle.machine_locks.specs.Aimed.{aimed};
+ghost use Rattle.machine_words.specs.Calls.{lending};
+ghost use Rattle.machine_words.specs.Said.{told, aimed};
 ghost use Rattle.cishmolaq.specs.Answers.{said, StartLeaves};
 ghost use Rattle.abi.specs.Numbers.{Tells, Writes, HandsBack};
 ghost use Rattle.abi.specs.Calls.{targetOf, Called};
@@ -109,9 +110,9 @@ pub extern "C" fn cishmolaq_start(
     state: &mut [u32],
     line: &mut usize,
 ) -> u32
-    ensures { λ r. ⌜ Tells (startAnswer (now (text .entry)) (length (now (values .entry))) (length (now (state .entry)))) r (now (line .exit)) ⌝ }
-    ensures { λ _. ⌜ StartLeaves (now (text .entry)) (now (values .entry)) (now (state .entry))
-        (startAnswer (now (text .entry)) (length (now (values .entry))) (length (now (state .entry)))) (now (state .exit)) ⌝ }
+    ensures { λ r. ⌜ Tells (startAnswer stateWords (now (text .entry)) (length (now (values .entry))) (length (now (state .entry)))) r (now (line .exit)) ⌝ }
+    ensures { λ _. ⌜ StartLeaves (lending (now (text .entry)) (now (state .entry)) (now (values .entry)))
+        (startAnswer stateWords (now (text .entry)) (length (now (values .entry))) (length (now (state .entry)))) (lending (now (text .entry)) (now (state .exit)) (now (values .entry))) ⌝ }
 {
     let started = cishmolaq::start(text, values, state);
     tell(started, line)
@@ -146,11 +147,11 @@ fn tell_call(outcome: Outcome, detail: &mut u32) -> u32
 fn target_of(kind: u32, number: u32) -> Target
     ensures { λ r. ⌜ aimed r ≡ targetOf kind number ⌝ }
 {
-    if kind == 0 {
+    if kind == layout::OBJECT_KIND {
         Target::Object(number)
-    } else if kind == 1 {
+    } else if kind == layout::CLASS_KIND {
         Target::Class(number)
-    } else if kind == 2 {
+    } else if kind == layout::DOMAIN_KIND {
         Target::Domain(number)
     } else {
         Target::Object(64)
@@ -170,7 +171,8 @@ pub extern "C" fn cishmolaq_send(
     argument: u32,
     detail: &mut u32,
 ) -> u32
-    ensures { λ r. ⌜ Called (now (text .entry)) (now (state .entry)) (now (values .entry)) (send slot (to (targetOf kind number) method argument)) r (now (detail .exit)) (now (state .exit)) (now (values .entry)) ⌝ }
+    ensures { λ r. ⌜ Called (lending (now (text .entry)) (now (state .entry)) (now (values .entry))) (send slot (to (targetOf kind number) method argument))
+        r (now (detail .exit)) (lending (now (text .entry)) (now (state .exit)) (now (values .entry))) ⌝ }
 {
     let target = target_of(kind, number);
     let sent = cishmolaq::send(text, state, values, slot, target, method, argument);
@@ -186,7 +188,8 @@ pub extern "C" fn cishmolaq_step(
     slot: u32,
     detail: &mut u32,
 ) -> u32
-    ensures { λ r. ⌜ Called (now (text .entry)) (now (state .entry)) (now (values .entry)) (step slot) r (now (detail .exit)) (now (state .exit)) (now (values .exit)) ⌝ }
+    ensures { λ r. ⌜ Called (lending (now (text .entry)) (now (state .entry)) (now (values .entry))) (step slot)
+        r (now (detail .exit)) (lending (now (text .entry)) (now (state .exit)) (now (values .exit))) ⌝ }
 {
     let stepped = cishmolaq::step(text, state, values, slot);
     tell_call(stepped, detail)
@@ -201,7 +204,8 @@ pub extern "C" fn cishmolaq_commit(
     slot: u32,
     detail: &mut u32,
 ) -> u32
-    ensures { λ r. ⌜ Called (now (text .entry)) (now (state .entry)) (now (values .entry)) (commit slot) r (now (detail .exit)) (now (state .exit)) (now (values .entry)) ⌝ }
+    ensures { λ r. ⌜ Called (lending (now (text .entry)) (now (state .entry)) (now (values .entry))) (commit slot)
+        r (now (detail .exit)) (lending (now (text .entry)) (now (state .exit)) (now (values .entry))) ⌝ }
 {
     let committed = cishmolaq::commit(text, state, values, slot);
     tell_call(committed, detail)
@@ -216,7 +220,8 @@ pub extern "C" fn cishmolaq_abort(
     slot: u32,
     detail: &mut u32,
 ) -> u32
-    ensures { λ r. ⌜ Called (now (text .entry)) (now (state .entry)) (now (values .entry)) (abort slot) r (now (detail .exit)) (now (state .exit)) (now (values .exit)) ⌝ }
+    ensures { λ r. ⌜ Called (lending (now (text .entry)) (now (state .entry)) (now (values .entry))) (abort slot)
+        r (now (detail .exit)) (lending (now (text .entry)) (now (state .exit)) (now (values .exit))) ⌝ }
 {
     let aborted = cishmolaq::abort(text, state, values, slot);
     tell_call(aborted, detail)

@@ -7,14 +7,14 @@ use lib.ListN.{length, getD, List·getD-eq-default}
 use Rattle.layout.specs.Layout.{objectClassAt}
 use Rattle.model.specs.Base.{same, firstAt, upto}
 use Rattle.model.specs.Word.{Name}
-use Rattle.model.specs.Library.{Class, Object, classAt, classNumber, memberPlace}
+use Rattle.model.specs.Library.{Library, Class, Object, classAt, classNumber, memberPlace}
 use Rattle.model.specs.Machine.{object, class, domain, to, send}
 use Rattle.model.specs.Rehearsal.{atObject, atClass, atDomain, sendLine, classOfNumber, requestFor, callFor}
 use Rattle.laws.specs.Upto.{length-upto, getD-upto}
 use Rattle.catalog.specs.View.{classCount, objectCount, objectWord, membersOf, classOf, objectOf, libraryOf}
 use Rattle.catalog.specs.Look.{class-at, class-past, class-count}
-use Rattle.machine_words.specs.Calls.{tablesOf, called}
-use Rattle.machine_checks.specs.declared.Outcome.{Outcome}
+use Rattle.machine_words.specs.Calls.{Lent, tablesOf, called}
+use Rattle.machine_words.specs.declared.Outcome.{Outcome}
 use Rattle.machine_checks.specs.Told.{Leaves}
 use Rattle.output.specs.Each.{map-upto}
 use Rattle.call_lines.specs.Lent.{lentLibrary}
@@ -53,28 +53,31 @@ module _ (text ws : List ℕ) where
       ∙ class-count text (tablesOf ws))
 
 -- The call of a line whose names were looked up one by one.
-module _ (text ws values : List ℕ) (s : ℕ) (n m : Name) (a : ℕ) {k : ℕ} {r : Outcome} {words′ values′ : List ℕ} where
-  pub leaves-object : {o c : ℕ} → o ≡ objectNamed text ws n → c ≡ classOfNumber (lentLibrary text ws) o → k ≡ methodNamed text ws c m
-      → Leaves (called text ws values (send s (to (object o) k a))) r words′ values′
-      → Leaves (called text ws values (callFor (lentLibrary text ws) (sendLine s (atObject n) m a))) r words′ values′
-  unfolding requestFor
-  leaves-object {o} {c} e f g h =
-      let l = lentLibrary text ws in
-      subst (λ (d : ℕ). Leaves (called text ws values (send s (to (object d) (methodNamed text ws (classOfNumber l d) m) a))) r words′ values′) e
-      (subst (λ (d : ℕ). Leaves (called text ws values (send s (to (object o) (methodNamed text ws d m) a))) r words′ values′) f
-      (subst (λ (j : ℕ). Leaves (called text ws values (send s (to (object o) j a))) r words′ values′) g h))
+module _ (x : Lent) (s : ℕ) (n m : Name) (a : ℕ) where
+  abbrev library : Library
+  library = lentLibrary (x .text) (x .words)
 
-  module _ {c : ℕ} (e : c ≡ classNumber (lentLibrary text ws) n) (g : k ≡ methodNamed text ws c m) where
-    pub leaves-class : Leaves (called text ws values (send s (to (class c) k a))) r words′ values′
-        → Leaves (called text ws values (callFor (lentLibrary text ws) (sendLine s (atClass n) m a))) r words′ values′
-    unfolding requestFor
-    leaves-class h =
-        subst (λ (d : ℕ). Leaves (called text ws values (send s (to (class d) (methodNamed text ws d m) a))) r words′ values′) e
-        (subst (λ (j : ℕ). Leaves (called text ws values (send s (to (class c) j a))) r words′ values′) g h)
+  abbrev place : ℕ → ℕ
+  place c = methodNamed (x .text) (x .words) c m
 
-    pub leaves-domain : Leaves (called text ws values (send s (to (domain c) k a))) r words′ values′
-        → Leaves (called text ws values (callFor (lentLibrary text ws) (sendLine s (atDomain n) m a))) r words′ values′
+  module _ {k : ℕ} {r : Outcome} {y : Lent} where
+    pub leaves-object : {o c : ℕ} → o ≡ objectNamed (x .text) (x .words) n → c ≡ classOfNumber library o → k ≡ place c
+        → Leaves (called x (send s (to (object o) k a))) r y → Leaves (called x (callFor library (sendLine s (atObject n) m a))) r y
     unfolding requestFor
-    leaves-domain h =
-        subst (λ (d : ℕ). Leaves (called text ws values (send s (to (domain d) (methodNamed text ws d m) a))) r words′ values′) e
-        (subst (λ (j : ℕ). Leaves (called text ws values (send s (to (domain c) j a))) r words′ values′) g h)
+    leaves-object {o} e f g h =
+        subst (λ (d : ℕ). Leaves (called x (send s (to (object d) (place (classOfNumber library d)) a))) r y) e
+        (subst (λ (d : ℕ). Leaves (called x (send s (to (object o) (place d) a))) r y) f
+        (subst (λ (j : ℕ). Leaves (called x (send s (to (object o) j a))) r y) g h))
+
+    module _ {c : ℕ} (e : c ≡ classNumber library n) (g : k ≡ place c) where
+      pub leaves-class : Leaves (called x (send s (to (class c) k a))) r y → Leaves (called x (callFor library (sendLine s (atClass n) m a))) r y
+      unfolding requestFor
+      leaves-class h =
+          subst (λ (d : ℕ). Leaves (called x (send s (to (class d) (place d) a))) r y) e
+          (subst (λ (j : ℕ). Leaves (called x (send s (to (class c) j a))) r y) g h)
+
+      pub leaves-domain : Leaves (called x (send s (to (domain c) k a))) r y → Leaves (called x (callFor library (sendLine s (atDomain n) m a))) r y
+      unfolding requestFor
+      leaves-domain h =
+          subst (λ (d : ℕ). Leaves (called x (send s (to (domain d) (place d) a))) r y) e
+          (subst (λ (j : ℕ). Leaves (called x (send s (to (domain c) j a))) r y) g h)

@@ -3,14 +3,14 @@ use super::name::class_named;
 use super::name::class_of_number;
 use super::name::method_named;
 use super::name::object_named;
-use machine_checks::Outcome;
-use machine_locks::request::Target;
+use machine_words::Outcome;
+use machine_words::Target;
 ghost use Prim.Native.Nat.{_+_, _<_, _^_};
-ghost use mathlib.Core.List.{List, _++_};
+ghost use mathlib.Core.List.{_++_};
 ghost use Rattle.model.specs.Base.{bytes};
 ghost use Rattle.model.specs.Tables.{digits};
 ghost use Rattle.model.specs.Rehearsal.{atObject, atClass, atDomain, sendLine, callFor};
-ghost use Rattle.machine_words.specs.Calls.{called};
+ghost use Rattle.machine_words.specs.Calls.{lending, called};
 ghost use Rattle.output.specs.Append.{Appended};
 ghost use Rattle.call_lines.specs.Lent.{lentLibrary, replied};
 ghost use Rattle.call_lines.specs.Says.{outcomePrinted, Says};
@@ -58,7 +58,8 @@ pub(crate) fn send_to_object(
     at: usize,
 ) -> usize
     requires { ⌜ at + 18 < 2 ^ 64 ⌝ }
-    ensures { λ r. ⌜ Says (replied (called (now (text .entry)) (now (state .entry)) (now (values .entry)) (callFor (lentLibrary (now (text .entry)) (now (state .entry))) (sendLine slot (atObject (now (name .entry))) (now (method .entry)) argument)))) (now (out .entry)) at r (now (state .exit)) (now (values .entry)) (now (out .exit)) ⌝ }
+    ensures { λ r. ⌜ Says (replied (called (lending (now (text .entry)) (now (state .entry)) (now (values .entry))) (callFor (lentLibrary (now (text .entry)) (now (state .entry))) (sendLine slot (atObject (now (name .entry))) (now (method .entry)) argument))))
+        (now (out .entry)) at r (lending (now (text .entry)) (now (state .exit)) (now (values .entry))) (now (out .exit)) ⌝ }
 {
     let object = object_named(text, state, name);
     let class = class_of_number(text, state, object);
@@ -81,7 +82,8 @@ pub(crate) fn send_to_class(
     at: usize,
 ) -> usize
     requires { ⌜ at + 18 < 2 ^ 64 ⌝ }
-    ensures { λ r. ⌜ Says (replied (called (now (text .entry)) (now (state .entry)) (now (values .entry)) (callFor (lentLibrary (now (text .entry)) (now (state .entry))) (sendLine slot (atClass (now (name .entry))) (now (method .entry)) argument)))) (now (out .entry)) at r (now (state .exit)) (now (values .entry)) (now (out .exit)) ⌝ }
+    ensures { λ r. ⌜ Says (replied (called (lending (now (text .entry)) (now (state .entry)) (now (values .entry))) (callFor (lentLibrary (now (text .entry)) (now (state .entry))) (sendLine slot (atClass (now (name .entry))) (now (method .entry)) argument))))
+        (now (out .entry)) at r (lending (now (text .entry)) (now (state .exit)) (now (values .entry))) (now (out .exit)) ⌝ }
 {
     let class = class_named(text, state, name);
     let place = method_named(text, state, class, method);
@@ -103,7 +105,8 @@ pub(crate) fn send_to_domain(
     at: usize,
 ) -> usize
     requires { ⌜ at + 18 < 2 ^ 64 ⌝ }
-    ensures { λ r. ⌜ Says (replied (called (now (text .entry)) (now (state .entry)) (now (values .entry)) (callFor (lentLibrary (now (text .entry)) (now (state .entry))) (sendLine slot (atDomain (now (name .entry))) (now (method .entry)) argument)))) (now (out .entry)) at r (now (state .exit)) (now (values .entry)) (now (out .exit)) ⌝ }
+    ensures { λ r. ⌜ Says (replied (called (lending (now (text .entry)) (now (state .entry)) (now (values .entry))) (callFor (lentLibrary (now (text .entry)) (now (state .entry))) (sendLine slot (atDomain (now (name .entry))) (now (method .entry)) argument))))
+        (now (out .entry)) at r (lending (now (text .entry)) (now (state .exit)) (now (values .entry))) (now (out .exit)) ⌝ }
 {
     let class = class_named(text, state, name);
     let place = method_named(text, state, class, method);

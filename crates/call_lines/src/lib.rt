@@ -6,15 +6,13 @@ mod objects;
 
 use text_lex::Number;
 ghost use Prim.Native.Nat.{_+_, _<_, _^_};
-ghost use mathlib.Core.Bool.{cond};
-ghost use mathlib.Core.Option.{Option, none, some};
-ghost use mathlib.Core.List.{List};
 ghost use lib.ListN.{drop};
 ghost use Rattle.model.specs.Text.{words};
 ghost use Rattle.model.specs.Rehearsal.{callLine, slotForm, sendForm};
 ghost use Rattle.text_lex.specs.Piece.{wordsAfter};
+ghost use Rattle.machine_words.specs.Calls.{lending};
 ghost use Rattle.output.specs.Append.{Appended};
-ghost use Rattle.call_lines.specs.Lent.{lent, lentReply, lentLast};
+ghost use Rattle.call_lines.specs.Lent.{lentReply, lentLast};
 ghost use Rattle.call_lines.specs.Says.{Says};
 ghost use Rattle.call_lines.specs.Forms.{sendAfter};
 
@@ -29,7 +27,8 @@ fn slot_call(
     at: usize,
 ) -> usize
     requires { ⌜ at + 18 < 2 ^ 64 ⌝ }
-    ensures { λ r. ⌜ Says (lentReply (now (text .entry)) (lent (now (state .entry)) (now (values .entry))) (slotForm (now (keyword .entry)) slot)) (now (out .entry)) at r (now (state .exit)) (now (values .exit)) (now (out .exit)) ⌝ }
+    ensures { λ r. ⌜ Says (lentReply (lending (now (text .entry)) (now (state .entry)) (now (values .entry))) (slotForm (now (keyword .entry)) slot))
+        (now (out .entry)) at r (lending (now (text .entry)) (now (state .exit)) (now (values .exit))) (now (out .exit)) ⌝ }
 {
     if text_lex::same(keyword, b"step") {
         let outcome = machine_calls::step::step(text, state, values, slot);
@@ -60,7 +59,8 @@ fn send_call(
     at: usize,
 ) -> usize
     requires { ⌜ at + 18 < 2 ^ 64 ⌝ }
-    ensures { λ r. ⌜ Says (lentReply (now (text .entry)) (lent (now (state .entry)) (now (values .entry))) (sendForm (now (keyword .entry)) slot (now (name .entry)) (now (method .entry)) argument)) (now (out .entry)) at r (now (state .exit)) (now (values .entry)) (now (out .exit)) ⌝ }
+    ensures { λ r. ⌜ Says (lentReply (lending (now (text .entry)) (now (state .entry)) (now (values .entry))) (sendForm (now (keyword .entry)) slot (now (name .entry)) (now (method .entry)) argument))
+        (now (out .entry)) at r (lending (now (text .entry)) (now (state .exit)) (now (values .entry))) (now (out .exit)) ⌝ }
 {
     if text_lex::same(keyword, b"send") {
         return answer::send_to_object(text, state, values, slot, name, method, argument, out, at);
@@ -88,7 +88,8 @@ fn send_line(
     at: usize,
 ) -> usize
     requires { ⌜ at + 18 < 2 ^ 64 ⌝ }
-    ensures { λ r. ⌜ Says (lentReply (now (text .entry)) (lent (now (state .entry)) (now (values .entry))) (sendAfter (now (keyword .entry)) slot (wordsAfter (drop from (now (line .entry)))))) (now (out .entry)) at r (now (state .exit)) (now (values .entry)) (now (out .exit)) ⌝ }
+    ensures { λ r. ⌜ Says (lentReply (lending (now (text .entry)) (now (state .entry)) (now (values .entry))) (sendAfter (now (keyword .entry)) slot (wordsAfter (drop from (now (line .entry))))))
+        (now (out .entry)) at r (lending (now (text .entry)) (now (state .exit)) (now (values .entry))) (now (out .exit)) ⌝ }
 {
     let name = text_lex::word_after(line, from);
     let name_end = text_lex::word_end_after(line, from);
@@ -129,7 +130,8 @@ pub fn answer_line(
     at: usize,
 ) -> usize
     requires { ⌜ at + 18 < 2 ^ 64 ⌝ }
-    ensures { λ r. ⌜ Says (lentReply (now (text .entry)) (lent (now (state .entry)) (now (values .entry))) (callLine (words (now (line .entry))))) (now (out .entry)) at r (now (state .exit)) (now (values .exit)) (now (out .exit)) ⌝ }
+    ensures { λ r. ⌜ Says (lentReply (lending (now (text .entry)) (now (state .entry)) (now (values .entry))) (callLine (words (now (line .entry)))))
+        (now (out .entry)) at r (lending (now (text .entry)) (now (state .exit)) (now (values .exit))) (now (out .exit)) ⌝ }
 {
     let keyword_end = text_lex::word_end(line, 0);
     let keyword = &line[..keyword_end];
@@ -150,7 +152,7 @@ pub fn answer_line(
 // Writes a line for each object: its name and its values.
 pub fn put_objects(text: &[u8], state: &[u32], values: &[u32], out: &mut [u8], at: usize) -> usize
     requires { ⌜ at + 24576 < 2 ^ 64 ⌝ }
-    ensures { λ r. ⌜ Appended (lentLast (now (text .entry)) (lent (now (state .entry)) (now (values .entry)))) (now (out .entry)) at r (now (out .exit)) ⌝ }
+    ensures { λ r. ⌜ Appended (lentLast (lending (now (text .entry)) (now (state .entry)) (now (values .entry)))) (now (out .entry)) at r (now (out .exit)) ⌝ }
 {
     objects::put_lines(text, name::tables_of(state), values, out, at)
 }

@@ -8,7 +8,7 @@ use native.Mathlib.Omega.{arith}
 use lib.ListN.{length, getD, length-map, List·getD-map, List·getD-eq-default}
 use lib.Dec.{eqb, ltb}
 use borrow.Author.Tests.{lt-ltb, le-ltb, ltb-true, ltb-false}
-use Rattle.layout.specs.Layout.{namesAt, bodiesAt, kindWords, methodNamesAt}
+use Rattle.layout.specs.Layout.{namesAt, bodiesAt, kindWords, methodNamesAt, originUnit}
 use Rattle.model.specs.Word.{Name}
 use Rattle.model.specs.Library.{Member, Class, noMember, classAt, member, memberPlace, among, asRecorded}
 use Rattle.catalog.specs.View.{nameOf, classWord, classCount, memberCount, memberAt, membersOf, classOf, libraryOf}
@@ -31,7 +31,7 @@ bodyIn text tables c m =
 -- Whether class c exists and has a method at place k whose name's word is w.
 unfoldable pub namedAt : List ℕ → ℕ → ℕ → ℕ → Bool
 unfolding memberCount classWord
-namedAt tables c k w = ltb c (classCount tables) && ltb k (memberCount tables c 1) && eqb (classWord tables c (methodNamesAt + k) % 1048576) w
+namedAt tables c k w = ltb c (classCount tables) && ltb k (memberCount tables c 1) && eqb (classWord tables c (methodNamesAt + k) % originUnit) w
 
 -- The same body by the method's place, where the class has that name there; else by its name. On the tables of a text both are
 -- equal, for inherited methods too (body-at in crates/machine_refinement/specs/Tables.antt); by its place the method is found at
@@ -56,7 +56,7 @@ bounds-found m first end b = λ i. Found (b .first-is i) (b .end-is i)
 -- The class that defines the method at place j of class k; the number of classes where there is no method there.
 unfoldable pub originAt : List ℕ → ℕ → ℕ → ℕ
 unfolding shownCount classWord
-originAt tables k j = cond (ltb j (shownCount tables k 1)) (classWord tables k (namesAt + (1 * kindWords + j)) / 1048576) (classCount tables)
+originAt tables k j = cond (ltb j (shownCount tables k 1)) (classWord tables k (namesAt + (1 * kindWords + j)) / originUnit) (classCount tables)
 
 -- The method is at place j of class k, by a look-up that does not test whether there is such a class.
 module _ (text tables : List ℕ) (k : ℕ) (n : Name) (j : ℕ) (e : j ≡ memberPlace (membersOf text tables k 1) n) where

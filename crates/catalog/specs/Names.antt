@@ -5,13 +5,14 @@ use mathlib.Core.List.{List}
 use native.Mathlib.Omega.{arith}
 use lib.ListN.{take, drop}
 use Rattle.catalog.specs.View.{nameOf, partOf}
+use Rattle.layout.specs.Layout.{originUnit, partUnit}
 
 -- The word of a name with its origin.
 abbrev pub nameWord : ℕ → ℕ → ℕ → ℕ
-nameWord c at size = c % 4096 * 1048576 + (at % 32768 * 32 + size % 32)
+nameWord c at size = c % 4096 * originUnit + (at % 32768 * 32 + size % 32)
 
 abbrev pub partWord : ℕ → ℕ → ℕ
-partWord at size = at % 65536 * 65536 + size % 65536
+partWord at size = at % partUnit * partUnit + size % partUnit
 
 module _ (text : List ℕ) (c at size : ℕ) (h : at < 32768) (k : size < 32) where
   pub name-word-name : nameOf text (nameWord c at size) ≡ take size (drop at text)

@@ -1,19 +1,11 @@
--- The library that the words of the tables represent, whatever the words are. The layout, in words:
---   0 how many classes · 1 statements · 2 objects · 3 values · 4 the text's length · 5 the mark of a start · 6, 7 spare
---   8 + k * 232       class k: 0 its name · 1, 2 how many fields, methods · 3 its ancestors, bit d for class d
---                     · 4 the place of its latest method · 5 its domain, bit d for class d · 6, 7 spare
---                     · 8 + j, 40 + j field j: its name's word, its body's word (0) · 72 + j, 104 + j method j likewise
---                     · 136 + j, 168 + j, 200 + j method j: read mask, write mask, commuting mask
---   3720 + o * 4      object o: 0 its name · 1 its class · 2 where its values begin · 3 the part of its line with values
---   3976 + s          statement s: its place in the text
--- 8,072 words in all. A name's word is origin * 1048576 + place * 32 + length; a body's word first * 64 + count; a part's
--- word place * 65536 + length.
+-- The library that the words of the tables represent, whatever the words are: the layout is in crates/layout/specs/Layout.antt. A body's word
+-- is first * 64 + count.
 use Prim.Native.Nat.{ℕ, _+_, _*_, _/_, _%_, min}
 use mathlib.Core.Bool.{cond}
 use mathlib.Core.Option.{none}
 use mathlib.Core.List.{List, map}
 use lib.ListN.{getD, take, drop}
-use Rattle.layout.specs.Layout.{classesMost, membersMost, statementsMost, objectsMost, classCountAt, statementCountAt, objectCountAt, classNameAt, memberCountsAt, ancestorsAt, latestAt, namesAt, bodiesAt, kindWords, classWords, objectNameAt, objectClassAt, objectLineAt, objectWords, classesAt, objectsAt, statementsAt}
+use Rattle.layout.specs.Layout.{classesMost, membersMost, statementsMost, objectsMost, classCountAt, statementCountAt, objectCountAt, classNameAt, memberCountsAt, ancestorsAt, latestAt, namesAt, bodiesAt, kindWords, classWords, objectNameAt, objectClassAt, objectLineAt, objectWords, classesAt, objectsAt, statementsAt, originUnit, partUnit}
 use Rattle.model.specs.Base.{upto}
 use Rattle.laws.specs.Bits.{bit}
 use Rattle.model.specs.Text.{words}
@@ -31,7 +23,7 @@ nameOf text w = take (w % 32) (drop (w / 32 % 32768) text)
 
 -- A part of the text, by its word.
 unfoldable pub partOf : List ℕ → ℕ → List ℕ
-partOf text w = take (w % 65536) (drop (w / 65536) text)
+partOf text w = take (w % partUnit) (drop (w / partUnit) text)
 
 -- The statement of a line; for any other line a statement that does nothing here.
 abbrev pub statementIn : Form → Statement
@@ -79,7 +71,7 @@ unfolding classWord
 memberCount ws k p = min membersMost (classWord ws k (memberCountsAt + p))
 
 abbrev pub memberIn : List ℕ → ℕ → ℕ → Member
-memberIn text w b = record { origin = w / 1048576; name = nameOf text w; first = b / 64; count = b % 64 }
+memberIn text w b = record { origin = w / originUnit; name = nameOf text w; first = b / 64; count = b % 64 }
 
 unfoldable pub memberAt : List ℕ → List ℕ → ℕ → ℕ → ℕ → Member
 unfolding classWord nameOf
@@ -104,7 +96,7 @@ unfoldable pub placedOf : List ℕ → List ℕ → ℕ → Placed
 unfolding statementWord partOf formOf
 placedOf text ws s =
     let w = statementWord ws s in
-    record { statement = statementIn (formOf (words (partOf text w))); at = w / 65536; size = w % 65536 }
+    record { statement = statementIn (formOf (words (partOf text w))); at = w / partUnit; size = w % partUnit }
 
 unfoldable pub objectOf : List ℕ → List ℕ → ℕ → Object
 unfolding objectWord nameOf partOf valueOf

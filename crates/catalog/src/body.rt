@@ -6,8 +6,6 @@ ghost use Rattle.model.specs.Library.{memberPlace};
 ghost use Rattle.catalog.specs.View.{memberAt, membersOf};
 ghost use Rattle.catalog.specs.Bodies.{bodyIn, namedAt, bodyAt, Bounds, boundsOf, originAt};
 
-const METHODS: u32 = 1;
-
 // The statements of a body: its first, and the one past its last.
 pub struct Statements {
     pub first: u32,
@@ -24,8 +22,8 @@ pub enum Body {
 fn origin_at(tables: &[u32], class: u32, place: u32) -> u32
     ensures { λ r. ⌜ r ≡ originAt (now (tables .entry)) class place ⌝ }
 {
-    if place < super::shown_count(tables, class, METHODS) {
-        super::member_word(tables, class, METHODS, place) / 1048576
+    if place < super::shown_count(tables, class, layout::METHODS) {
+        super::member_word(tables, class, layout::METHODS, place) / layout::ORIGIN_UNIT
     } else {
         super::class_count(tables)
     }
@@ -39,14 +37,14 @@ fn place_in(text: &[u8], tables: &[u32], class: u32, found: u32, origin: u32, na
     if origin == class {
         return found;
     }
-    super::find(text, tables, origin, METHODS, name)
+    super::find(text, tables, origin, layout::METHODS, name)
 }
 
 // The body of the method at a place of a class, by its word.
 pub fn body_of(tables: &[u32], class: u32, place: u32) -> Statements
     ensures { λ r. ⌜ ((text : List ℕ) → Bounds (memberAt text (now (tables .entry)) class 1 place) (r .first) (r .end)) ⌝ }
 {
-    let word = super::body_word(tables, class, METHODS, place);
+    let word = super::body_word(tables, class, layout::METHODS, place);
     Statements {
         first: word / 64,
         end: word / 64 + word % 64,
@@ -57,10 +55,10 @@ pub fn body_of(tables: &[u32], class: u32, place: u32) -> Statements
 pub fn body_in(text: &[u8], tables: &[u32], class: u32, name: &[u8]) -> Body
     ensures { λ r. ⌜ r ≡ boundsOf (bodyIn (now (text .entry)) (now (tables .entry)) class (now (name .entry))) ⌝ }
 {
-    let found = super::find(text, tables, class, METHODS, name);
+    let found = super::find(text, tables, class, layout::METHODS, name);
     let origin = origin_at(tables, class, found);
     let place = place_in(text, tables, class, found, origin, name);
-    if place < super::shown_count(tables, origin, METHODS) {
+    if place < super::shown_count(tables, origin, layout::METHODS) {
         let body = body_of(tables, origin, place);
         Body::Found(body.first, body.end)
     } else {
@@ -72,10 +70,10 @@ pub fn body_in(text: &[u8], tables: &[u32], class: u32, name: &[u8]) -> Body
 pub fn named_at(tables: &[u32], class: u32, place: u32, name: u32) -> bool
     ensures { λ r. ⌜ r ≡ namedAt (now (tables .entry)) class place name ⌝ }
 {
-    if super::shown_count(tables, class, METHODS) <= place {
+    if super::shown_count(tables, class, layout::METHODS) <= place {
         return false;
     }
-    super::member_word(tables, class, METHODS, place) % 1048576 == name
+    super::member_word(tables, class, layout::METHODS, place) % layout::ORIGIN_UNIT == name
 }
 
 // The body of a class's method by its name's word: found at the place if the class has that name there, else by its name.

@@ -14,6 +14,8 @@ ghost use Rattle.catalog.specs.Names.{nameWord, partWord};
 ghost use Rattle.catalog.specs.Rows.{withMember, withCount};
 ghost use Rattle.catalog.specs.Look.{shownCount, firstNamed};
 
+const PART_UNIT: usize = layout::PART_UNIT as usize;
+
 // A word of a class.
 pub fn class_word(tables: &[u32], class: u32, place: u32) -> u32
     ensures { λ r. ⌜ r ≡ classWord (now (tables .entry)) class place ⌝ }
@@ -119,21 +121,25 @@ pub fn is_named(text: &[u8], word: u32, name: &[u8]) -> bool
 pub fn part_of(text: &[u8], word: u32) -> &[u8]
     ensures { λ r. ⌜ now r ≡ partOf (now (text .entry)) word ⌝ }
 {
-    part(text, (word / 65536) as usize, (word % 65536) as usize)
+    part(
+        text,
+        (word / layout::PART_UNIT) as usize,
+        (word % layout::PART_UNIT) as usize,
+    )
 }
 
 // The word of a name of a class, or of an object's name where the class is 0.
 pub fn name_word(class: u32, place: usize, size: usize) -> u32
     ensures { λ r. ⌜ r ≡ nameWord class place size ⌝ }
 {
-    class % 4096 * 1048576 + ((place % 32768) as u32 * 32 + (size % 32) as u32)
+    class % 4096 * layout::ORIGIN_UNIT + ((place % 32768) as u32 * 32 + (size % 32) as u32)
 }
 
 // The word of a part of the text.
 pub fn part_word(place: usize, size: usize) -> u32
     ensures { λ r. ⌜ r ≡ partWord place size ⌝ }
 {
-    (place % 65536) as u32 * 65536 + (size % 65536) as u32
+    (place % PART_UNIT) as u32 * layout::PART_UNIT + (size % PART_UNIT) as u32
 }
 
 // The lower of two numbers.

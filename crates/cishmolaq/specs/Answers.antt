@@ -10,6 +10,7 @@ use Rattle.model.specs.Image.{compileAnswer, compiledInto, statementPlace, valu
 use Rattle.model.specs.Tables.{printAnswer, printedInto}
 use Rattle.model.specs.Vector.{program}
 use Rattle.model.specs.Machine.{startAnswer}
+use Rattle.machine_words.specs.Calls.{Lent, withWords}
 use Rattle.machine_refinement.specs.Rep.{Fresh}
 use Rattle.cishmolaq.specs.declared.Place.{Place}
 use Rattle.cishmolaq.specs.declared.Answer.{Answer}
@@ -54,12 +55,14 @@ pub record Starts (text list : List ℕ) (r : Answer) (after : List ℕ) : Type 
   pub values : after ≡ startingValuesInto text list
   pub kept : Kept (said r) list after
 
--- What a start leaves: the words of a fresh start, and what lies past them unchanged; where it gives a number, all unchanged.
-abbrev pub StartLeaves : List ℕ → List ℕ → List ℕ → Told → List ℕ → Type 0
-StartLeaves text values ws (done n) after = Fresh text after values (program (library text)) × (drop stateWords after ≡ drop stateWords ws)
-StartLeaves text values ws (refusal number line) after = after ≡ ws
+-- What a start leaves: the words of a fresh start, and what lies past them and beside them unchanged; where it gives a number, all
+-- unchanged.
+abbrev pub StartLeaves : Lent → Told → Lent → Type 0
+StartLeaves x (done n) y =
+    Fresh y (program (library (y .text))) × (drop stateWords (y .words) ≡ drop stateWords (x .words)) × (y ≡ withWords x (y .words))
+StartLeaves x (refusal number line) y = y ≡ x
 
--- The answer of `start`, and the state after it.
-pub record Begins (text values ws : List ℕ) (r : Answer) (after : List ℕ) : Type 0 where
-  pub says : said r ≡ startAnswer text (length values) (length ws)
-  pub leaves : StartLeaves text values ws (said r) after
+-- The answer of `start`, and what it leaves of what is lent.
+pub record Begins (x : Lent) (r : Answer) (y : Lent) : Type 0 where
+  pub says : said r ≡ startAnswer stateWords (x .text) (length (x .values)) (length (x .words))
+  pub leaves : StartLeaves x (said r) y

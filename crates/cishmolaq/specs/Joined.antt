@@ -14,26 +14,33 @@ use Rattle.layout.specs.Layout.{phaseAt, waitingAt, waitingWords, spareAt, rowW
 use Rattle.laws.specs.Lists.{both-left}
 use Rattle.machine_words.specs.Request.{Wanted, namedRow, locked, First, on, past, nowhere, firstOf, entered}
 use Rattle.machine_words.specs.Line.{tablesOf, rowStart, rowOf, withRow, phaseOf, waitingIn, wantedIn, requested, waitingRow, withdrawn, countIn, firstInLine, slotAt, withPlace, obstacle, Waking, startedFrom, startedOrKept, wokenOr, isWaiting, wokenSlot, wokenFrom, woken}
+use Rattle.machine_words.specs.Calls.{Lent, withWords}
 use Rattle.machine_words.specs.Spans.{drop-sets}
 use Rattle.machine_words.specs.Rows.{with-same, with-other, with-tables, with-line, place-row, place-tables}
 use Rattle.machine_refinement.specs.WaitRows.{written-long, written-phase, written-else}
 use Rattle.machine_checks.specs.Lent.{Within, row-size}
-use Rattle.machine_locks.specs.Granted.{locked-length, entered-length}
-use Rattle.machine_locks.specs.Waits.{withdrawn-length}
+use Rattle.machine_take.specs.Taken.{locked-length, entered-length}
+use Rattle.machine_take.specs.Waits.{withdrawn-length}
 
 -- ---- a send that joins the line
 
 -- 40 for slot s: the values, the tables and every other slot's row are unchanged; the slot waits, and its row is altered only in its
 -- phase and in the words of its waiting send; and it is the last in line.
-pub record Joined (ws values : List ℕ) (s : ℕ) (ws′ values′ : List ℕ) : Type 0 where
-  pub values-same : values′ ≡ values
-  pub tables-same : tablesOf ws′ ≡ tablesOf ws
-  pub others-same : (t : ℕ) → t < 8 → t ≢ s → rowOf ws′ t ≡ rowOf ws t
-  pub waits : phaseOf (rowOf ws′ s) ≡ 3
-  pub own-same : (i : ℕ) → i ≢ phaseAt → (waitingAt ≤ i → i < spareAt → ⊥) → getD (rowOf ws′ s) i 0 ≡ getD (rowOf ws s) i 0
-  pub last : firstInLine ws′ (countIn ws′) ≡ firstInLine ws (countIn ws) ++ (s ∷ [])
+pub record Joined (x : Lent) (s : ℕ) (y : Lent) : Type 0 where
+  pub values-same : y .values ≡ x .values
+  pub tables-same : tablesOf (y .words) ≡ tablesOf (x .words)
+  pub others-same : (t : ℕ) → t < 8 → t ≢ s → rowOf (y .words) t ≡ rowOf (x .words) t
+  pub waits : phaseOf (rowOf (y .words) s) ≡ 3
+  pub own-same : (i : ℕ) → i ≢ phaseAt → (waitingAt ≤ i → i < spareAt → ⊥) → getD (rowOf (y .words) s) i 0 ≡ getD (rowOf (x .words) s) i 0
+  pub last : firstInLine (y .words) (countIn (y .words)) ≡ firstInLine (x .words) (countIn (x .words)) ++ (s ∷ [])
 
-module _ (text ws : List ℕ) (s : ℕ) (h : Within ws s) (q : Wanted) where
+module _ (x : Lent) (s : ℕ) (h : Within (x .words) s) (q : Wanted) where
+  abbrev text : List ℕ
+  text = x .text
+
+  abbrev ws : List ℕ
+  ws = x .words
+
   abbrev asked : List ℕ
   asked = requested q (replicate waitingWords 0)
 
@@ -100,8 +107,8 @@ module _ (text ws : List ℕ) (s : ℕ) (h : Within ws s) (q : Wanted) where
         drop-set-lt stateWords second lineAt (suc n) (omega arith) ∙ drop-set-lt stateWords first (firstInLineAt + n) s (omega arith)
         ∙ drop-sets row ws (rowStart s) stateWords (omega (arith, h .slot, row-long))
 
-    pub joins : (values : List ℕ) → n ≡ countIn ws → Joined ws values s joinedWords values
-    joins values e =
+    pub joins : n ≡ countIn ws → Joined x s (withWords x joinedWords)
+    joins e =
         record {
           values-same = refl;
           tables-same =

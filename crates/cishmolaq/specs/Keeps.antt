@@ -26,23 +26,23 @@ use Rattle.machine_words.specs.Row.{Turn, noteAt, withAct, newAct, stepped, pas
 use Rattle.machine_words.specs.Turn.{decided}
 use Rattle.machine_words.specs.Request.{Wanted, lacking, rowMeets, ownsLocks, locked, First, on, past, nowhere, firstOf, entered}
 use Rattle.machine_words.specs.Line.{waitingIn, withdrawn, countIn, firstInLine, holderAt, waiterAt, inTheWay, obstacle, closesCircle, woken}
-use Rattle.machine_words.specs.Calls.{After, tablesOf, rowStart, rowOf, phaseOf, withRow, misfitOf, isStarted, refused, wanted, startedOr, joinedAt, joinedOr, arrivedOr, grantedOr, granted, sentTo, sentBy, laid, endedAt, undoneAt, onClosed, onIdle, onRunning, onWaiting, slotIn, byPhase, called}
+use Rattle.machine_words.specs.Calls.{Lent, lending, lending-same, After, tablesOf, rowStart, rowOf, phaseOf, withRow, misfitOf, isStarted, refused, wanted, startedOr, joinedAt, joinedOr, arrivedOr, grantedOr, granted, sentTo, sentBy, laid, endedAt, undoneAt, onClosed, onIdle, onRunning, onWaiting, slotIn, byPhase, called}
 use Rattle.machine_words.specs.Spans.{drop-sets}
 use Rattle.machine_words.specs.Rows.{fit-is}
 use Rattle.machine_refinement.specs.Freeing.{freed-long}
 use Rattle.machine_checks.specs.Lent.{Within, row-size, with-own}
-use Rattle.machine_locks.specs.Granted.{locked-length, entered-length}
-use Rattle.machine_locks.specs.Waits.{withdrawn-length}
+use Rattle.machine_take.specs.Taken.{locked-length, entered-length}
+use Rattle.machine_take.specs.Waits.{withdrawn-length}
 use Rattle.cishmolaq.specs.Joined.{Joined, joins, joins-past, woken-past}
 
 -- With every number but 40 and 41, what was lent is unchanged; with 40, slot s waits, the last in line.
-abbrev pub Kept : ℕ → Answer → List ℕ → List ℕ → List ℕ → List ℕ → Type 0
-Kept s (refuse n) ws values ws′ values′ = (ws′ ≡ ws) × (values′ ≡ values)
-Kept s (held t) ws values ws′ values′ = Joined ws values s ws′ values′
-Kept s done ws values ws′ values′ = Unit {0}
-Kept s going ws values ws′ values′ = Unit {0}
-Kept s (answer v) ws values ws′ values′ = Unit {0}
-Kept s stopped ws values ws′ values′ = Unit {0}
+abbrev pub Kept : ℕ → Answer → Lent → Lent → Type 0
+Kept s (refuse n) x y = y ≡ x
+Kept s (held t) x y = Joined x s y
+Kept s done x y = Unit {0}
+Kept s going x y = Unit {0}
+Kept s (answer v) x y = Unit {0}
+Kept s stopped x y = Unit {0}
 
 -- 40 for slot s names another slot, which is open or in line in the words.
 abbrev pub Holder : List ℕ → ℕ → Answer → Type 0
@@ -62,12 +62,12 @@ Numbered going = Unit {0}
 Numbered (answer v) = Unit {0}
 Numbered stopped = Unit {0}
 
--- What a call of slot s answers and leaves, on these words and values.
-pub record Keeps (ws values : List ℕ) (s : ℕ) (x : After) : Type 0 where
-  pub kept : Kept s (x .answered) ws values (x .words) (x .values)
-  pub past : drop stateWords (x .words) ≡ drop stateWords ws
-  pub holder : Holder ws s (x .answered)
-  pub number : Numbered (x .answered)
+-- What a call of slot s answers and leaves of what is lent.
+pub record Keeps (x : Lent) (s : ℕ) (after : After) : Type 0 where
+  pub kept : Kept s (after .answered) x (after .lent)
+  pub past : drop stateWords (after .lent .words) ≡ drop stateWords (x .words)
+  pub holder : Holder (x .words) s (after .answered)
+  pub number : Numbered (after .answered)
 
 -- ---- each turn keeps the row's length
 
@@ -98,15 +98,24 @@ carried-length row values (Row.answer v) h = simp length-set h
 
 -- ---- each call
 
-module _ (text ws values : List ℕ) (s : ℕ) where
+module _ (x : Lent) (s : ℕ) where
+  abbrev text : List ℕ
+  text = x .text
+
+  abbrev ws : List ℕ
+  ws = x .words
+
+  abbrev values : List ℕ
+  values = x .values
+
   abbrev Good : After → Type 0
-  Good = Keeps ws values s
+  Good = Keeps x s
 
-  refuses : (n : ℕ) → 21 ≤ n → n ≤ 37 → Good (refused ws values n)
-  refuses n g h = record { kept = (refl, refl); past = refl; holder = tt; number = inl (g, h) }
+  refuses : (n : ℕ) → 21 ≤ n → n ≤ 37 → Good (refused x n)
+  refuses n g h = record { kept = refl; past = refl; holder = tt; number = inl (g, h) }
 
-  refuses-circle : Good (refused ws values 42)
-  refuses-circle = record { kept = (refl, refl); past = refl; holder = tt; number = inr refl }
+  refuses-circle : Good (refused x 42)
+  refuses-circle = record { kept = refl; past = refl; holder = tt; number = inr refl }
 
   module _ (h : Within ws s) where
     row-past : (row : List ℕ) → length row ≡ rowWords → drop stateWords (withRow ws s row) ≡ drop stateWords ws
@@ -122,7 +131,7 @@ module _ (text ws values : List ℕ) (s : ℕ) where
         let row = locked text (tablesOf ws) q (rowOf ws s) in
         row-past (entered q f row) (entered-length q f row ∙ locked-length text (tablesOf ws) q (rowOf ws s) ∙ own)
 
-    starts : (q : Wanted) (f : First) → Good (startedOr text ws values s q f)
+    starts : (q : Wanted) (f : First) → Good (startedOr x s q f)
     starts q (on o first end) = record { kept = tt; past = started-past q (on o first end); holder = tt; number = tt }
     starts q (past o) = record { kept = tt; past = started-past q (past o); holder = tt; number = tt }
     starts q nowhere = refuses 24 (omega arith) (omega arith)
@@ -140,57 +149,57 @@ module _ (text ws values : List ℕ) (s : ℕ) where
         let in-line = any (eqb t) (firstInLine ws (countIn ws)) in (
           eqb-false t s (not-true (eqb t s) (both-left a (holder || waiter) e)),
           ⊎-elim
-              (λ x. inl (eqb-false (phaseOf (rowOf ws t)) 0 (not-true (eqb (phaseOf (rowOf ws t)) 0) (both-left is-open (test (rowOf ws t)) x))))
-              (λ x. inr (both-left in-line (test (waitingIn (rowOf ws t))) x))
+              (λ o. inl (eqb-false (phaseOf (rowOf ws t)) 0 (not-true (eqb (phaseOf (rowOf ws t)) 0) (both-left is-open (test (rowOf ws t)) o))))
+              (λ o. inr (both-left in-line (test (waitingIn (rowOf ws t))) o))
               (either-cases holder waiter (both-right a (holder || waiter) e)),
         )
 
-    joins-or : (q : Wanted) (t : ℕ) → (t < 8) × (inTheWay text ws (countIn ws) s q t ≡ true) → Good (joinedOr text ws values s q t)
+    joins-or : (q : Wanted) (t : ℕ) → (t < 8) × (inTheWay text ws (countIn ws) s q t ≡ true) → Good (joinedOr x s q t)
     joins-or q t found = go (leb 8 (countIn ws)) refl (closesCircle text ws s q)
       where
-        go : (b : Bool) → leb 8 (countIn ws) ≡ b → (c : Bool) → Good (cond b (refused ws values 24) (cond c (refused ws values 42) (joinedAt text ws values s q t)))
+        go : (b : Bool) → leb 8 (countIn ws) ≡ b → (c : Bool) → Good (cond b (refused x 24) (cond c (refused x 42) (joinedAt x s q t)))
         go true e c = refuses 24 (omega arith) (omega arith)
         go false e true = refuses-circle
         go false e false =
             let few = leb-false 8 (countIn ws) e in
             let way = in-the-way q t (found .1) in
             record {
-              kept = joins text ws s h q (countIn ws) few values refl;
-              past = joins-past text ws s h q (countIn ws) few;
+              kept = joins x s h q (countIn ws) few refl;
+              past = joins-past x s h q (countIn ws) few;
               holder = (found .0, way .0, way .1);
               number = tt;
             }
 
-    arrives : (q : Wanted) (t : Option ℕ) → least (inTheWay text ws (countIn ws) s q) 8 ≡ t → Good (arrivedOr text ws values s q t)
+    arrives : (q : Wanted) (t : Option ℕ) → least (inTheWay text ws (countIn ws) s q) 8 ≡ t → Good (arrivedOr x s q t)
     arrives q none e = starts q (firstOf text (tablesOf ws) q)
     arrives q (some t) e = joins-or q t (least-some (inTheWay text ws (countIn ws) s q) 8 t e)
 
-    grants : (q : Wanted) → Good (granted text ws values s q)
+    grants : (q : Wanted) → Good (granted x s q)
     unfolding granted obstacle
     grants q = go (ownsLocks text (tablesOf ws) q (rowOf ws s))
       where
-        go : (b : Bool) → Good (grantedOr text ws values s q b)
+        go : (b : Bool) → Good (grantedOr x s q b)
         go true = starts q (firstOf text (tablesOf ws) q)
         go false = arrives q (least (inTheWay text ws (countIn ws) s q) 8) refl
 
-    sends-to : (kind n c k a : ℕ) → Good (sentTo text ws values s kind n c k a)
+    sends-to : (kind n c k a : ℕ) → Good (sentTo x s kind n c k a)
     unfolding sentTo
     sends-to kind n c k a = go (leb (classCount (tablesOf ws)) c) (leb (memberCount (tablesOf ws) c 1) k) (lacking text (tablesOf ws) q)
       where
         q : Wanted
         q = wanted (tablesOf ws) kind n c k a
 
-        go : (x y z : Bool) → Good (cond x (refused ws values 24) (cond y (refused ws values 36) (cond z (refused ws values 24) (granted text ws values s q))))
-        go true y z = refuses 24 (omega arith) (omega arith)
-        go false true z = refuses 36 (omega arith) (omega arith)
+        go : (u v w : Bool) → Good (cond u (refused x 24) (cond v (refused x 36) (cond w (refused x 24) (granted x s q))))
+        go true v w = refuses 24 (omega arith) (omega arith)
+        go false true w = refuses 36 (omega arith) (omega arith)
         go false false true = refuses 24 (omega arith) (omega arith)
         go false false false = grants q
 
-    sends-there : (b : Bool) (kind n c k a : ℕ) → Good (cond b (sentTo text ws values s kind n c k a) (refused ws values 36))
+    sends-there : (b : Bool) (kind n c k a : ℕ) → Good (cond b (sentTo x s kind n c k a) (refused x 36))
     sends-there true kind n c k a = sends-to kind n c k a
     sends-there false kind n c k a = refuses 36 (omega arith) (omega arith)
 
-    sends : (q : Request) → Good (sentBy text ws values s q)
+    sends : (q : Request) → Good (sentBy x s q)
     sends (to (object o) k a) = sends-there (ltb o (objectCount (tablesOf ws))) 0 o (objectWord (tablesOf ws) o 1) k a
     sends (to (class c) k a) = sends-there (ltb c (classCount (tablesOf ws))) 1 c c k a
     sends (to (domain c) k a) = sends-there (ltb c (classCount (tablesOf ws))) 2 c c k a
@@ -204,9 +213,9 @@ module _ (text ws values : List ℕ) (s : ℕ) where
     woken-row : (row : List ℕ) → length row ≡ rowWords → drop stateWords (woken text (withRow ws s row)) ≡ drop stateWords ws
     woken-row row size = woken-past text (withRow ws s row) (omega (arith, length-sets ws (rowStart s) row, h .long)) .1 ∙ row-past row size
 
-    steps : (t : Turn) → Good (laid text ws s (carried (rowOf ws s) values t))
+    steps : (t : Turn) → Good (laid x s (carried (rowOf ws s) values t))
     unfolding carried
-    steps Row.misfit = record { kept = (with-own ws s h, refl); past = carried-past Row.misfit; holder = tt; number = inl (omega arith, omega arith) }
+    steps Row.misfit = record { kept = lending-same refl (with-own ws s h) refl; past = carried-past Row.misfit; holder = tt; number = inl (omega arith, omega arith) }
     steps Row.stop = record { kept = tt; past = woken-row (freed (rowOf ws s)) (freed-long (rowOf ws s) own); holder = tt; number = tt }
     steps Row.skip = record { kept = tt; past = carried-past Row.skip; holder = tt; number = tt }
     steps (Row.assign how k v) = record { kept = tt; past = carried-past (Row.assign how k v); holder = tt; number = tt }
@@ -216,71 +225,71 @@ module _ (text ws values : List ℕ) (s : ℕ) where
     steps (Row.next o first end sum) = record { kept = tt; past = carried-past (Row.next o first end sum); holder = tt; number = tt }
     steps (Row.answer v) = record { kept = tt; past = carried-past (Row.answer v); holder = tt; number = tt }
 
-    frees : (row values′ : List ℕ) → length row ≡ rowWords → Good (record { answered = done; words = endedAt text ws s row; values = values′ })
+    frees : (row values′ : List ℕ) → length row ≡ rowWords → Good (record { answered = done; lent = lending text (endedAt text ws s row) values′ })
     frees row values′ size = record { kept = tt; past = woken-row (freed row) (freed-long row size); holder = tt; number = tt }
 
-    ends : (values′ : List ℕ) → Good (record { answered = done; words = endedAt text ws s (rowOf ws s); values = values′ })
+    ends : (values′ : List ℕ) → Good (record { answered = done; lent = lending text (endedAt text ws s (rowOf ws s)) values′ })
     ends values′ = frees (rowOf ws s) values′ own
 
-    withdraws : Good (undoneAt text ws values s (withdrawn (rowOf ws s)))
+    withdraws : Good (undoneAt x s (withdrawn (rowOf ws s)))
     withdraws = frees (withdrawn (rowOf ws s)) (putBack (noteAt (withdrawn (rowOf ws s))) values) (withdrawn-length (rowOf ws s) ∙ own)
 
 -- ---- by the phase of its slot
 
-module _ (text ws values : List ℕ) where
-  closed-keeps : (c : Call) → Within ws (slotIn c) → Keeps ws values (slotIn c) (onClosed text ws values c)
-  closed-keeps (send s q) h = sends text ws values s h q
-  closed-keeps (step s) h = refuses text ws values s 32 (omega arith) (omega arith)
-  closed-keeps (commit s) h = refuses text ws values s 32 (omega arith) (omega arith)
-  closed-keeps (abort s) h = refuses text ws values s 32 (omega arith) (omega arith)
+module _ (x : Lent) where
+  closed-keeps : (c : Call) → Within (x .words) (slotIn c) → Keeps x (slotIn c) (onClosed x c)
+  closed-keeps (send s q) h = sends x s h q
+  closed-keeps (step s) h = refuses x s 32 (omega arith) (omega arith)
+  closed-keeps (commit s) h = refuses x s 32 (omega arith) (omega arith)
+  closed-keeps (abort s) h = refuses x s 32 (omega arith) (omega arith)
 
-  idle-keeps : (c : Call) → Within ws (slotIn c) → Keeps ws values (slotIn c) (onIdle text ws values c)
-  idle-keeps (send s q) h = sends text ws values s h q
-  idle-keeps (step s) h = refuses text ws values s 35 (omega arith) (omega arith)
-  idle-keeps (commit s) h = ends text ws values s h values
-  idle-keeps (abort s) h = ends text ws values s h (putBack (noteAt (rowOf ws s)) values)
+  idle-keeps : (c : Call) → Within (x .words) (slotIn c) → Keeps x (slotIn c) (onIdle x c)
+  idle-keeps (send s q) h = sends x s h q
+  idle-keeps (step s) h = refuses x s 35 (omega arith) (omega arith)
+  idle-keeps (commit s) h = ends x s h (x .values)
+  idle-keeps (abort s) h = ends x s h (putBack (noteAt (rowOf (x .words) s)) (x .values))
 
-  running-keeps : (c : Call) → Within ws (slotIn c) → Keeps ws values (slotIn c) (onRunning text ws values c)
-  running-keeps (send s q) h = refuses text ws values s 34 (omega arith) (omega arith)
-  running-keeps (step s) h = steps text ws values s h (decided text (tablesOf ws) (rowOf ws s) values)
-  running-keeps (commit s) h = refuses text ws values s 34 (omega arith) (omega arith)
-  running-keeps (abort s) h = ends text ws values s h (putBack (noteAt (rowOf ws s)) values)
+  running-keeps : (c : Call) → Within (x .words) (slotIn c) → Keeps x (slotIn c) (onRunning x c)
+  running-keeps (send s q) h = refuses x s 34 (omega arith) (omega arith)
+  running-keeps (step s) h = steps x s h (decided (x .text) (tablesOf (x .words)) (rowOf (x .words) s) (x .values))
+  running-keeps (commit s) h = refuses x s 34 (omega arith) (omega arith)
+  running-keeps (abort s) h = ends x s h (putBack (noteAt (rowOf (x .words) s)) (x .values))
 
-  waiting-keeps : (c : Call) → Within ws (slotIn c) → Keeps ws values (slotIn c) (onWaiting text ws values c)
-  waiting-keeps (send s q) h = refuses text ws values s 37 (omega arith) (omega arith)
-  waiting-keeps (step s) h = refuses text ws values s 37 (omega arith) (omega arith)
-  waiting-keeps (commit s) h = refuses text ws values s 37 (omega arith) (omega arith)
-  waiting-keeps (abort s) h = withdraws text ws values s h
+  waiting-keeps : (c : Call) → Within (x .words) (slotIn c) → Keeps x (slotIn c) (onWaiting x c)
+  waiting-keeps (send s q) h = refuses x s 37 (omega arith) (omega arith)
+  waiting-keeps (step s) h = refuses x s 37 (omega arith) (omega arith)
+  waiting-keeps (commit s) h = refuses x s 37 (omega arith) (omega arith)
+  waiting-keeps (abort s) h = withdraws x s h
 
-  phase-keeps : (c : Call) → Within ws (slotIn c) → (x y z u : Bool)
-      → Keeps ws values (slotIn c) (cond x (onClosed text ws values c) (cond y (onIdle text ws values c)
-      (cond z (onRunning text ws values c) (cond u (onWaiting text ws values c) (refused ws values 24)))))
-  phase-keeps c h true y z u = closed-keeps c h
-  phase-keeps c h false true z u = idle-keeps c h
-  phase-keeps c h false false true u = running-keeps c h
+  phase-keeps : (c : Call) → Within (x .words) (slotIn c) → (a b d e : Bool)
+      → Keeps x (slotIn c) (cond a (onClosed x c) (cond b (onIdle x c)
+      (cond d (onRunning x c) (cond e (onWaiting x c) (refused x 24)))))
+  phase-keeps c h true b d e = closed-keeps c h
+  phase-keeps c h false true d e = idle-keeps c h
+  phase-keeps c h false false true e = running-keeps c h
   phase-keeps c h false false false true = waiting-keeps c h
-  phase-keeps c h false false false false = refuses text ws values (slotIn c) 24 (omega arith) (omega arith)
+  phase-keeps c h false false false false = refuses x (slotIn c) 24 (omega arith) (omega arith)
 
-  misfit-keeps : (c : Call) (m : ℕ) → misfitOf text ws values ≡ suc m → Keeps ws values (slotIn c) (refused ws values (suc m))
+  misfit-keeps : (c : Call) (m : ℕ) → misfitOf x ≡ suc m → Keeps x (slotIn c) (refused x (suc m))
   unfolding misfitOf
-  misfit-keeps c m e = go (ltb (length ws) stateWords) (isStarted text ws values) e
+  misfit-keeps c m e = go (ltb (length (x .words)) stateWords) (isStarted x) e
     where
-      go : (x y : Bool) → _≡_ {A = ℕ} (cond x 21 (cond y 0 24)) (suc m) → Keeps ws values (slotIn c) (refused ws values (suc m))
-      go true y q = refuses text ws values (slotIn c) (suc m) (omega arith) (omega arith)
+      go : (a b : Bool) → _≡_ {A = ℕ} (cond a 21 (cond b 0 24)) (suc m) → Keeps x (slotIn c) (refused x (suc m))
+      go true b q = refuses x (slotIn c) (suc m) (omega arith) (omega arith)
       go false true q = absurd (omega arith)
-      go false false q = refuses text ws values (slotIn c) (suc m) (omega arith) (omega arith)
+      go false false q = refuses x (slotIn c) (suc m) (omega arith) (omega arith)
 
   -- Every call keeps this, whatever is lent.
-  pub every-call : (c : Call) → Keeps ws values (slotIn c) (called text ws values c)
+  pub every-call : (c : Call) → Keeps x (slotIn c) (called x c)
   unfolding called
-  every-call c = go (misfitOf text ws values) refl (leb 8 (slotIn c)) refl
+  every-call c = go (misfitOf x) refl (leb 8 (slotIn c)) refl
     where
       phase : ℕ
-      phase = phaseOf (rowOf ws (slotIn c))
+      phase = phaseOf (rowOf (x .words) (slotIn c))
 
-      go : (m : ℕ) → misfitOf text ws values ≡ m → (b : Bool) → leb 8 (slotIn c) ≡ b
-          → Keeps ws values (slotIn c) (cond (not (eqb m 0)) (refused ws values m) (cond b (refused ws values 31) (byPhase text ws values c phase)))
+      go : (m : ℕ) → misfitOf x ≡ m → (b : Bool) → leb 8 (slotIn c) ≡ b
+          → Keeps x (slotIn c) (cond (not (eqb m 0)) (refused x m) (cond b (refused x 31) (byPhase x c phase)))
       go (suc m) e b q = rw (eqb·suc-zero m) (misfit-keeps c m e)
-      go zero e true q = refuses text ws values (slotIn c) 31 (omega arith) (omega arith)
+      go zero e true q = refuses x (slotIn c) 31 (omega arith) (omega arith)
       go zero e false q =
-          phase-keeps c (record { slot = leb-false 8 (slotIn c) q; long = fit-is text ws values e .long }) (eqb phase 0) (eqb phase 1) (eqb phase 2) (eqb phase 3)
+          phase-keeps c (record { slot = leb-false 8 (slotIn c) q; long = fit-is x e .long }) (eqb phase 0) (eqb phase 1) (eqb phase 2) (eqb phase 3)

@@ -14,7 +14,7 @@ use Rattle.model.specs.Told.{done, refusal, orFault, fitted, into}
 use Rattle.model.specs.Image.{image, imageIn, compileAnswer, compiledInto, statementAnswer, placeAndSize, placeIn, statementPlace, statementPart, startingValues, valuesAnswer, startingValuesInto}
 use Rattle.model.specs.Tables.{refusalPrinted, printedFor, printed, printAnswer, printedInto}
 use Rattle.laws.specs.Basics.{All}
-use Rattle.theory.specs.Accepted.{Inside, library-within}
+use Rattle.text_theory.specs.Accepted.{Inside, library-within}
 use Rattle.catalog.specs.View.{statementWord, classCount, statementCount, memberCount, placedOf, libraryOf}
 use Rattle.laws.specs.Upto.{getD-upto}
 use Rattle.catalog.specs.Look.{statement-count}

@@ -5,8 +5,3 @@ pub mod Start
 pub mod Joined
 pub mod Keeps
 pub mod Promises
-pub mod Made
-pub mod PlainCourse
-pub mod Seen
-pub mod Line
-pub mod Steps

@@ -12,6 +12,7 @@ use Rattle.model.specs.Vector.{program}
 use Rattle.catalog.specs.View.{libraryOf}
 use Rattle.image.specs.Sizes.{valueCount}
 use Rattle.model.specs.Machine.{startAnswer}
+use Rattle.machine_words.specs.Calls.{Lent, withWords}
 use Rattle.machine_refinement.specs.Rep.{Fresh}
 use Rattle.machine_start.specs.Started.{Fill}
 use Rattle.machine_start.specs.Installed.{installed, rest-there, fresh-start}
@@ -19,9 +20,12 @@ use Rattle.cishmolaq.specs.declared.Answer.the-variants.{Done, Refused}
 use Rattle.cishmolaq.specs.Answers.{Begins}
 use Rattle.cishmolaq.specs.Laws.{count-is}
 
-module _ (text values ws : List ℕ) where
+module _ (x : Lent) where
+  abbrev text : List ℕ
+  text = x .text
+
   -- A refused text: its fault, and nothing altered.
-  pub start-refused : (number line : ℕ) → read text ≡ refused number line → Begins text values ws (Refused number line) ws
+  pub start-refused : (number line : ℕ) → read text ≡ refused number line → Begins x (Refused number line) x
   unfolding startAnswer
   start-refused number line e = record { says = rw e; leaves = refl }
 
@@ -35,30 +39,31 @@ module _ (text values ws : List ℕ) where
     many = length (startingValues (libraryOf text tables))
 
     -- A state that is too short: 21, and nothing altered.
-    pub start-short : length ws < stateWords → Begins text values ws (Refused 21 0) ws
+    pub start-short : length (x .words) < stateWords → Begins x (Refused 21 0) x
     unfolding startAnswer
-    start-short h = record { says = rw (e, lt-ltb (length ws) stateWords h); leaves = refl }
+    start-short h = record { says = rw (e, lt-ltb (length (x .words)) stateWords h); leaves = refl }
 
-    module _ (long : stateWords ≤ length ws) where
+    module _ (long : stateWords ≤ length (x .words)) where
       -- A list with another number of values: 22, and nothing altered.
-      pub start-other : (length values ≡ valueCount tables → ⊥) → Begins text values ws (Refused 22 0) ws
+      pub start-other : (length (x .values) ≡ valueCount tables → ⊥) → Begins x (Refused 22 0) x
       unfolding startAnswer
       start-other h =
-          let other : length values ≡ many → ⊥ = λ q. h (q ∙ sym (count-is text values tables e)) in
-          record { says = rw (e, le-ltb (length ws) stateWords long, ne-eqb (length values) many other); leaves = refl }
+          let other : length (x .values) ≡ many → ⊥ = λ q. h (q ∙ sym (count-is text (x .values) tables e)) in
+          record { says = rw (e, le-ltb (length (x .words)) stateWords long, ne-eqb (length (x .values)) many other); leaves = refl }
 
       -- A fresh start in the state's words, and what lies past them unchanged.
-      pub start-done : length values ≡ valueCount tables → (filled after : List ℕ) → Fill text tables filled
-          → after ≡ installed filled (drop stateWords ws) → Begins text values ws (Done 0) after
+      pub start-done : length (x .values) ≡ valueCount tables → (filled after : List ℕ) → Fill text tables filled
+          → after ≡ installed filled (drop stateWords (x .words)) → Begins x (Done 0) (withWords x after)
       unfolding startAnswer
       start-done h filled after f q =
-          let same : length values ≡ many = h ∙ count-is text values tables e in
-          let new = fresh-start text tables filled values (drop stateWords ws) (f .started e) h in
+          let same : length (x .values) ≡ many = h ∙ count-is text (x .values) tables e in
+          let new = fresh-start text tables filled (x .values) (drop stateWords (x .words)) (f .started e) h in
           record {
-            says = rw (e, le-ltb (length ws) stateWords long, eq-eqb (length values) many same);
+            says = rw (e, le-ltb (length (x .words)) stateWords long, eq-eqb (length (x .values)) many same);
             leaves = (
-              subst (λ (l : Library). Fresh text after values (program l)) library-is
-                  (subst (λ (l : List ℕ). Fresh text l values (program (libraryOf text tables))) (sym q) new),
-              ap (drop stateWords) q ∙ rest-there filled (drop stateWords ws) (f .size),
+              subst (λ (l : Library). Fresh (withWords x after) (program l)) library-is
+                  (subst (λ (l : List ℕ). Fresh (withWords x l) (program (libraryOf text tables))) (sym q) new),
+              ap (drop stateWords) q ∙ rest-there filled (drop stateWords (x .words)) (f .size),
+              refl,
             );
           }

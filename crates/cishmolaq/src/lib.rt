@@ -1,8 +1,8 @@
 // The public entries. Those over a text (its verdict, its image, its statements, its starting values, the lines that `tables`
 // prints, a start on it) read the text anew into tables of their own. The calls of the machine work on the lent state. Each is
 // total, and writes to what is lent only where it gives no number, 40 or 41.
-use machine_checks::Outcome;
-use machine_locks::request::Target;
+use machine_words::Outcome;
+use machine_words::Target;
 use reader::Verdict;
 ghost use Prim.Native.Nat.{ℕ};
 ghost use mathlib.Core.Path.{_≡_};
@@ -16,7 +16,8 @@ ghost use Rattle.model.specs.Service.{send, step, commit, abort};
 ghost use Rattle.model.specs.Machine.{to};
 ghost use Rattle.catalog.specs.View.{libraryOf};
 ghost use Rattle.reader.specs.Verdicts.{Checks};
-ghost use Rattle.machine_locks.specs.Aimed.{aimed};
+ghost use Rattle.machine_words.specs.Calls.{lending};
+ghost use Rattle.machine_words.specs.Said.{aimed};
 ghost use Rattle.cishmolaq.specs.Promises.{Does};
 ghost use Rattle.cishmolaq.specs.Answers.{said, Fits, Compiles, Prints, Stands, Starts, Begins};
 
@@ -74,8 +75,8 @@ fn place_at(tables: &[u32], count: u32) -> Place
     if count < catalog::statement_count(tables) {
         let word = memory::get(tables, layout::STATEMENTS_AT + count as usize);
         Place {
-            at: (word / 65536) as usize,
-            size: (word % 65536) as usize,
+            at: (word / layout::PART_UNIT) as usize,
+            size: (word % layout::PART_UNIT) as usize,
         }
     } else {
         Place { at: 0, size: 0 }
@@ -187,7 +188,8 @@ pub fn print_tables(text: &[u8], out: &mut [u8]) -> Answer
 fn start_on(text: &[u8], tables: &mut [u32], values: &[u32], state: &mut [u32]) -> Answer
     requires { ⌜ length (now tables) ≡ tableWords ⌝ }
     ensures { λ r. ⌜ (read (now (text .entry)) ≡ accepted (libraryOf (now (text .entry)) (now (tables .entry)))
-        → Begins (now (text .entry)) (now (values .entry)) (now (state .entry)) r (now (state .exit))) ⌝ }
+        → Begins (lending (now (text .entry)) (now (state .entry)) (now (values .entry)))
+        r (lending (now (text .entry)) (now (state .exit)) (now (values .entry)))) ⌝ }
 {
     let count = image::value_count(tables);
     if state.len() < layout::STATE_WORDS {
@@ -204,7 +206,8 @@ fn start_on(text: &[u8], tables: &mut [u32], values: &[u32], state: &mut [u32]) 
 // Starts the machine on a text and its values: the tables of the text, eight closed slots and an empty line, in the lent state. 21 where
 // the state is too short, 22 where the list of values has another length.
 pub fn start(text: &[u8], values: &[u32], state: &mut [u32]) -> Answer
-    ensures { λ r. ⌜ Begins (now (text .entry)) (now (values .entry)) (now (state .entry)) r (now (state .exit)) ⌝ }
+    ensures { λ r. ⌜ Begins (lending (now (text .entry)) (now (state .entry)) (now (values .entry)))
+        r (lending (now (text .entry)) (now (state .exit)) (now (values .entry))) ⌝ }
 {
     let mut tables = [0u32; layout::TABLE_WORDS];
     let verdict = reader::read_text(text, &mut tables);
@@ -226,28 +229,32 @@ pub fn send(
     place: u32,
     argument: u32,
 ) -> Outcome
-    ensures { λ r. ⌜ Does (now (text .entry)) (now (state .entry)) (now (values .entry)) (send slot (to (aimed target) place argument)) r (now (state .exit)) (now (values .entry)) ⌝ }
+    ensures { λ r. ⌜ Does (lending (now (text .entry)) (now (state .entry)) (now (values .entry))) (send slot (to (aimed target) place argument))
+        r (lending (now (text .entry)) (now (state .exit)) (now (values .entry))) ⌝ }
 {
     machine_calls::send::send(text, state, values, slot, target, place, argument)
 }
 
 // Runs one statement of the slot's message, or ends a body. 41 where the message is stopped; that does the work of abort.
 pub fn step(text: &[u8], state: &mut [u32], values: &mut [u32], slot: u32) -> Outcome
-    ensures { λ r. ⌜ Does (now (text .entry)) (now (state .entry)) (now (values .entry)) (step slot) r (now (state .exit)) (now (values .exit)) ⌝ }
+    ensures { λ r. ⌜ Does (lending (now (text .entry)) (now (state .entry)) (now (values .entry))) (step slot)
+        r (lending (now (text .entry)) (now (state .exit)) (now (values .exit))) ⌝ }
 {
     machine_calls::step::step(text, state, values, slot)
 }
 
 // Ends the slot's transaction and keeps the values. Those who wait are woken.
 pub fn commit(text: &[u8], state: &mut [u32], values: &[u32], slot: u32) -> Outcome
-    ensures { λ r. ⌜ Does (now (text .entry)) (now (state .entry)) (now (values .entry)) (commit slot) r (now (state .exit)) (now (values .entry)) ⌝ }
+    ensures { λ r. ⌜ Does (lending (now (text .entry)) (now (state .entry)) (now (values .entry))) (commit slot)
+        r (lending (now (text .entry)) (now (state .exit)) (now (values .entry))) ⌝ }
 {
     machine_calls::commit(text, state, values, slot)
 }
 
 // Undoes the slot's transaction: puts back the values, withdraws a waiting send, and frees the slot. Those who wait are woken.
 pub fn abort(text: &[u8], state: &mut [u32], values: &mut [u32], slot: u32) -> Outcome
-    ensures { λ r. ⌜ Does (now (text .entry)) (now (state .entry)) (now (values .entry)) (abort slot) r (now (state .exit)) (now (values .exit)) ⌝ }
+    ensures { λ r. ⌜ Does (lending (now (text .entry)) (now (state .entry)) (now (values .entry))) (abort slot)
+        r (lending (now (text .entry)) (now (state .exit)) (now (values .exit))) ⌝ }
 {
     machine_calls::abort(text, state, values, slot)
 }

@@ -9,6 +9,7 @@ ghost use lib.ListN.{length};
 ghost use Rattle.image.specs.Written.{placesFrom, imageFrom, startingFrom, tablesFrom};
 ghost use Rattle.output.specs.Append.{over, Printed, Appended};
 ghost use Rattle.image.specs.Sizes.{methodCount, valueCount, pairs};
+ghost use Rattle.layout.specs.Layout.{statementsMost};
 
 // The number of methods of all classes.
 fn method_count(tables: &[u32]) -> u32
@@ -35,7 +36,7 @@ pub fn image_size(tables: &[u32]) -> usize
 
 // Writes the four pairs, for parts of so many statements and methods.
 fn put_pairs(image: &mut [u8], statements: u32, methods: u32) -> usize
-    requires { ⌜ (statements ≤ 4096) × (methods ≤ 512) ⌝ }
+    requires { ⌜ (statements ≤ statementsMost) × (methods ≤ 512) ⌝ }
     ensures { λ r. ⌜ Appended (pairs (8 * statements) (8 * methods) (4 * methods) (4 * methods)) (now (image .entry)) 0 r (now (image .exit)) ⌝ }
 {
     let second = 32 + 8 * statements;
@@ -56,7 +57,12 @@ fn put_places(tables: &[u32], image: &mut [u8], at: usize) -> usize
     let mut statement = 0;
     while statement < count {
         let word = memory::get(tables, layout::STATEMENTS_AT + statement as usize);
-        end = output::put_pair(image, end, word / 65536, word % 65536);
+        end = output::put_pair(
+            image,
+            end,
+            word / layout::PART_UNIT,
+            word % layout::PART_UNIT,
+        );
         statement += 1;
     }
     end

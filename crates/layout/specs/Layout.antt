@@ -25,6 +25,49 @@ slotsMost = 8
 abbrev pub activationsMost : ℕ
 activationsMost = 8
 
+-- ---- what words mean
+
+-- The mark that a start leaves.
+abbrev pub startMark : ℕ
+startMark = 1128352845
+
+-- A name's word is origin * originUnit + place * 32 + length; a part's word is place * partUnit + length.
+abbrev pub originUnit : ℕ
+originUnit = 1048576
+
+abbrev pub partUnit : ℕ
+partUnit = 65536
+
+-- The kinds of a class's members.
+abbrev pub fieldKind : ℕ
+fieldKind = 0
+
+abbrev pub methodKind : ℕ
+methodKind = 1
+
+-- The kinds of a send's target.
+abbrev pub objectKind : ℕ
+objectKind = 0
+
+abbrev pub classKind : ℕ
+classKind = 1
+
+abbrev pub domainKind : ℕ
+domainKind = 2
+
+-- A slot's phase: closed, open, with a message running, waiting with a send.
+abbrev pub closedPhase : ℕ
+closedPhase = 0
+
+abbrev pub idlePhase : ℕ
+idlePhase = 1
+
+abbrev pub runningPhase : ℕ
+runningPhase = 2
+
+abbrev pub waitingPhase : ℕ
+waitingPhase = 3
+
 -- ---- the tables' head: how many classes, statements, objects and values, the text's length, the mark of a start; two words spare
 
 abbrev pub classCountAt : ℕ

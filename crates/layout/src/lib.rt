@@ -19,6 +19,37 @@ pub const SLOTS: u32 = 8;
 
 pub const ACTIVATIONS: u32 = 8;
 
+// ---- what words mean
+
+// The mark that a start leaves.
+pub const START_MARK: u32 = 1128352845;
+
+// A name's word is origin * ORIGIN_UNIT + place * 32 + length; a part's word is place * PART_UNIT + length.
+pub const ORIGIN_UNIT: u32 = 1048576;
+
+pub const PART_UNIT: u32 = 65536;
+
+// The kinds of a class's members.
+pub const FIELDS: u32 = 0;
+
+pub const METHODS: u32 = 1;
+
+// The kinds of a send's target.
+pub const OBJECT_KIND: u32 = 0;
+
+pub const CLASS_KIND: u32 = 1;
+
+pub const DOMAIN_KIND: u32 = 2;
+
+// A slot's phase: closed, open, with a message running, waiting with a send.
+pub const CLOSED: u32 = 0;
+
+pub const IDLE: u32 = 1;
+
+pub const RUNNING: u32 = 2;
+
+pub const WAITING: u32 = 3;
+
 // ---- the tables' head: how many classes, statements, objects and values, the text's length, the mark of a start; two words spare
 
 pub const CLASS_COUNT_AT: usize = 0;

@@ -1,14 +1,13 @@
 // Carries out a turn on a slot's row and the values.
-use machine_decide::Turn;
 use machine_words::Change;
+use machine_words::Turn;
 ghost use Prim.Native.Nat.{_-_};
 ghost use mathlib.Core.Path.{_≡_};
 ghost use lib.ListN.{length, set};
 ghost use Rattle.layout.specs.Layout.{phaseAt, rowWords};
 ghost use Rattle.model.specs.Message.{changed};
-ghost use Rattle.machine_words.specs.Said.{saidChange};
 ghost use Rattle.machine_words.specs.Row.{stepped, passed, skipRow, callRow, replyRow, backRow, carried, assign, stop};
-ghost use Rattle.machine_decide.specs.Said.{saidTurn};
+ghost use Rattle.machine_words.specs.Said.{saidChange, saidTurn};
 ghost use Rattle.machine_apply.specs.Carried.{Leaves};
 
 // What a step answers.
@@ -115,14 +114,14 @@ fn stop(row: &mut [u32], values: &mut [u32])
     requires { ⌜ length (now row) ≡ rowWords ⌝ }
     ensures { λ _. ⌜ Leaves (carried (now (row .entry)) (now (values .entry)) stop) Said.Halted (now (row .exit)) (now (values .exit)) ⌝ }
 {
-    machine_locks::release::roll_back(row, values);
+    machine_undo::release::roll_back(row, values);
 }
 
 // Ends the message: the slot stays open, with its locks and notes.
 fn finish(row: &mut [u32])
     ensures { λ _. ⌜ now (row .exit) ≡ set (now (row .entry)) phaseAt 1 ⌝ }
 {
-    memory::put(row, layout::PHASE_AT, 1);
+    memory::put(row, layout::PHASE_AT, layout::IDLE);
 }
 
 // Carries out a turn on the slot's row and the values.

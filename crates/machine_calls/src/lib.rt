@@ -3,13 +3,13 @@
 pub mod send;
 pub mod step;
 
-use machine_checks::Outcome;
+use machine_words::Outcome;
 ghost use mathlib.Core.Path.{_≡_};
 ghost use Rattle.model.specs.Undo.{putBack};
 ghost use Rattle.model.specs.Service.{commit, abort};
 ghost use Rattle.machine_words.specs.Row.{noteAt};
 ghost use Rattle.machine_words.specs.Line.{rowOf, withdrawn};
-ghost use Rattle.machine_words.specs.Calls.{endedAt, called};
+ghost use Rattle.machine_words.specs.Calls.{lending, endedAt, called};
 ghost use Rattle.machine_checks.specs.Told.{Leaves};
 ghost use Rattle.machine_checks.specs.Lent.{Within};
 
@@ -20,7 +20,7 @@ fn close_and_wake(text: &[u8], state: &mut [u32], slot: u32)
 {
     let start = layout::TABLE_WORDS + slot as usize * layout::ROW_WORDS;
     let end = start + layout::ROW_WORDS;
-    machine_locks::release::close(&mut state[start..end]);
+    machine_undo::release::close(&mut state[start..end]);
     machine_locks::wake::wake(text, state);
 }
 
@@ -29,13 +29,13 @@ fn close_slot(text: &[u8], state: &mut [u32], slot: u32)
     requires { ⌜ Within (now state) slot ⌝ }
     ensures { λ _. ⌜ now (state .exit) ≡ endedAt (now (text .entry)) (now (state .entry)) slot (rowOf (now (state .entry)) slot) ⌝ }
 {
-    if machine_locks::line::waiting_count(state) != 0 {
+    if machine_conflicts::line::waiting_count(state) != 0 {
         close_and_wake(text, state, slot);
         return;
     }
     let start = layout::TABLE_WORDS + slot as usize * layout::ROW_WORDS;
     let end = start + layout::ROW_WORDS;
-    machine_locks::release::close(&mut state[start..end]);
+    machine_undo::release::close(&mut state[start..end]);
 }
 
 // Undoes the slot's transaction, and wakes those who wait.
@@ -46,7 +46,7 @@ fn roll_back(text: &[u8], state: &mut [u32], values: &mut [u32], slot: u32)
 {
     let start = layout::TABLE_WORDS + slot as usize * layout::ROW_WORDS;
     let end = start + layout::ROW_WORDS;
-    machine_locks::release::roll_back(&mut state[start..end], values);
+    machine_undo::release::roll_back(&mut state[start..end], values);
     machine_locks::wake::wake(text, state);
 }
 
@@ -59,20 +59,21 @@ fn roll_back_waiting(text: &[u8], state: &mut [u32], values: &mut [u32], slot: u
     let start = layout::TABLE_WORDS + slot as usize * layout::ROW_WORDS;
     let end = start + layout::ROW_WORDS;
     let row = &mut state[start..end];
-    machine_locks::wait::withdraw(row);
-    machine_locks::release::roll_back(row, values);
+    machine_take::wait::withdraw(row);
+    machine_undo::release::roll_back(row, values);
     machine_locks::wake::wake(text, state);
 }
 
 // Frees a slot and keeps the values.
 pub fn commit(text: &[u8], state: &mut [u32], values: &[u32], slot: u32) -> Outcome
-    ensures { λ r. ⌜ Leaves (called (now (text .entry)) (now (state .entry)) (now (values .entry)) (commit slot)) r (now (state .exit)) (now (values .entry)) ⌝ }
+    ensures { λ r. ⌜ Leaves (called (lending (now (text .entry)) (now (state .entry)) (now (values .entry))) (commit slot))
+        r (lending (now (text .entry)) (now (state .exit)) (now (values .entry))) ⌝ }
 {
     let refused = machine_checks::idle_refusal(text, state, values, slot);
     if refused != 0 {
         return Outcome::Refused(refused);
     }
-    if machine_checks::phase_of(state, slot) == 0 {
+    if machine_checks::phase_of(state, slot) == layout::CLOSED {
         return Outcome::Refused(32);
     }
     close_slot(text, state, slot);
@@ -81,17 +82,18 @@ pub fn commit(text: &[u8], state: &mut [u32], values: &[u32], slot: u32) -> Outc
 
 // Undoes the transaction in the values, and frees its slot.
 pub fn abort(text: &[u8], state: &mut [u32], values: &mut [u32], slot: u32) -> Outcome
-    ensures { λ r. ⌜ Leaves (called (now (text .entry)) (now (state .entry)) (now (values .entry)) (abort slot)) r (now (state .exit)) (now (values .exit)) ⌝ }
+    ensures { λ r. ⌜ Leaves (called (lending (now (text .entry)) (now (state .entry)) (now (values .entry))) (abort slot))
+        r (lending (now (text .entry)) (now (state .exit)) (now (values .exit))) ⌝ }
 {
     let number = machine_checks::refusal(text, state, values, slot);
     if number != 0 {
         return Outcome::Refused(number);
     }
     let phase = machine_checks::phase_of(state, slot);
-    if phase == 0 {
+    if phase == layout::CLOSED {
         return Outcome::Refused(32);
     }
-    if phase == 3 {
+    if phase == layout::WAITING {
         roll_back_waiting(text, state, values, slot);
         return Outcome::Done;
     }

@@ -1,14 +1,14 @@
 // The call send: the tests of every call, then the request for its locks.
-use machine_checks::Outcome;
-use machine_locks::request::Target;
 use machine_locks::request::request;
+use machine_words::Outcome;
+use machine_words::Target;
 ghost use mathlib.Core.Path.{_≡_};
 ghost use Rattle.model.specs.Service.{send};
 ghost use Rattle.model.specs.Machine.{to};
-ghost use Rattle.machine_words.specs.Calls.{called};
+ghost use Rattle.machine_words.specs.Calls.{lending, called};
 ghost use Rattle.machine_checks.specs.Told.{Leaves};
-ghost use Rattle.machine_locks.specs.Aimed.{aimed};
 ghost use Rattle.machine_locks.specs.Outcomes.{outcomeOf};
+ghost use Rattle.machine_words.specs.Said.{aimed};
 
 // The outcome for a send's number.
 fn outcome_of(number: u32) -> Outcome
@@ -34,7 +34,8 @@ pub fn send(
     place: u32,
     argument: u32,
 ) -> Outcome
-    ensures { λ r. ⌜ Leaves (called (now (text .entry)) (now (state .entry)) (now (values .entry)) (send slot (to (aimed target) place argument))) r (now (state .exit)) (now (values .entry)) ⌝ }
+    ensures { λ r. ⌜ Leaves (called (lending (now (text .entry)) (now (state .entry)) (now (values .entry))) (send slot (to (aimed target) place argument)))
+        r (lending (now (text .entry)) (now (state .exit)) (now (values .entry))) ⌝ }
 {
     let refused = machine_checks::idle_refusal(text, state, values, slot);
     if refused != 0 {

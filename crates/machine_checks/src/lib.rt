@@ -1,27 +1,16 @@
-// What every call tests first (01, "The machine") on the lent text, state and values; and what a call answers.
+// What every call tests first (01, "The machine") on the lent text, state and values.
 ghost use mathlib.Core.Path.{_≡_};
-ghost use Rattle.machine_words.specs.Calls.{rowOf, phaseOf, misfitOf};
+ghost use Rattle.machine_words.specs.Calls.{lending, rowOf, phaseOf, misfitOf};
 ghost use Rattle.machine_checks.specs.Phases.{firstRefusal, idleRefusal};
-
-// What a call answers: done (a send: granted), going or the message's answer; a number 21 to 37, or 42; 40 with the
-// lowest clashing slot; 41.
-pub enum Outcome {
-    Done,
-    Going,
-    Answer(u32),
-    Refused(u32),
-    Held(u32),
-    Stopped,
-}
 
 // 21 or 24 where what is lent does not fit; else 0.
 fn misfit(text: &[u8], state: &[u32], values: &[u32]) -> u32
-    ensures { λ r. ⌜ r ≡ misfitOf (now (text .entry)) (now (state .entry)) (now (values .entry)) ⌝ }
+    ensures { λ r. ⌜ r ≡ misfitOf (lending (now (text .entry)) (now (state .entry)) (now (values .entry))) ⌝ }
 {
     if state.len() < layout::STATE_WORDS {
         return 21;
     }
-    if (memory::get(state, layout::START_MARK_AT) == 1128352845)
+    if (memory::get(state, layout::START_MARK_AT) == layout::START_MARK)
         & (memory::get(state, layout::TEXT_LENGTH_AT) as usize == text.len())
         & (memory::get(state, layout::VALUE_COUNT_AT) as usize == values.len())
         & (values.len() <= layout::VALUES)
@@ -31,7 +20,7 @@ fn misfit(text: &[u8], state: &[u32], values: &[u32]) -> u32
     24
 }
 
-// A slot's phase: 0 closed, 1 open, 2 a message runs, 3 a send waits.
+// A slot's phase.
 pub fn phase_of(state: &[u32], slot: u32) -> u32
     ensures { λ r. ⌜ r ≡ phaseOf (rowOf (now (state .entry)) slot) ⌝ }
 {
@@ -43,7 +32,7 @@ pub fn phase_of(state: &[u32], slot: u32) -> u32
 
 // What every call tests first: 21, 24, then 31, then 24 for an unknown phase; else 0.
 pub fn refusal(text: &[u8], state: &[u32], values: &[u32], slot: u32) -> u32
-    ensures { λ r. ⌜ r ≡ firstRefusal (now (text .entry)) (now (state .entry)) (now (values .entry)) slot ⌝ }
+    ensures { λ r. ⌜ r ≡ firstRefusal (lending (now (text .entry)) (now (state .entry)) (now (values .entry))) slot ⌝ }
 {
     let number = misfit(text, state, values);
     if number != 0 {
@@ -52,7 +41,7 @@ pub fn refusal(text: &[u8], state: &[u32], values: &[u32], slot: u32) -> u32
     if 8 <= slot {
         return 31;
     }
-    if 3 < phase_of(state, slot) {
+    if layout::WAITING < phase_of(state, slot) {
         return 24;
     }
     0
@@ -60,17 +49,17 @@ pub fn refusal(text: &[u8], state: &[u32], values: &[u32], slot: u32) -> u32
 
 // What send and commit test first: no send waits and no message runs in the slot. The refusals of every call, then 37, 34; else 0.
 pub fn idle_refusal(text: &[u8], state: &[u32], values: &[u32], slot: u32) -> u32
-    ensures { λ r. ⌜ r ≡ idleRefusal (now (text .entry)) (now (state .entry)) (now (values .entry)) slot ⌝ }
+    ensures { λ r. ⌜ r ≡ idleRefusal (lending (now (text .entry)) (now (state .entry)) (now (values .entry))) slot ⌝ }
 {
     let number = refusal(text, state, values, slot);
     if number != 0 {
         return number;
     }
     let phase = phase_of(state, slot);
-    if phase == 3 {
+    if phase == layout::WAITING {
         return 37;
     }
-    if phase == 2 {
+    if phase == layout::RUNNING {
         return 34;
     }
     0

@@ -1,5 +1,1 @@
-pub mod Said
-pub mod Visits
-pub mod Actions
-pub mod Lines
 pub mod Decides

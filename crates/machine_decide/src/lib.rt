@@ -1,32 +1,19 @@
 // What the next step of a running message is (01, "The machine"), by the text, the tables, the slot's row and the values.
 // It reads only; crates/machine_apply carries the turn out.
-pub mod line;
-pub mod visit;
-
 use catalog::body::Body;
-use machine_words::Change;
+use machine_statement::line::line_turn;
+use machine_targets::visit::object_from;
+use machine_targets::visit::target_there;
+use machine_words::Turn;
 ghost use Prim.Native.Nat.{_<_};
 ghost use mathlib.Core.Path.{_≡_};
 ghost use lib.ListN.{getD};
 ghost use Rattle.layout.specs.Layout.{stepsAt, objectAt};
 ghost use Rattle.machine_words.specs.Turn.{nextTurn, endTurn, activationTurn, decidedWide, decided};
-ghost use Rattle.machine_decide.specs.Said.{saidTurn};
+ghost use Rattle.machine_words.specs.Said.{saidTurn};
 
 // What 16 bits hold at most.
 const STEPS_MOST: u32 = 65535;
-
-// The next step of a running message: see `Turn` in crates/machine_words/specs/Row.antt.
-pub enum Turn {
-    Misfit,
-    Stop,
-    Skip,
-    Assign(Change, usize, u32),
-    Call(u32, u32, u32),
-    Reply(u32),
-    Back(u32),
-    Next(u32, u32, u32, u32),
-    Answer(u32),
-}
 
 // The turn to an object, with the sum so far: to its own class's method of the name sent.
 fn next_turn(text: &[u8], tables: &[u32], name: u32, object: u32, sum: u32) -> Turn
@@ -47,12 +34,12 @@ fn end_turn(text: &[u8], tables: &[u32], row: &[u32], value: u32) -> Turn
 {
     let kind = memory::get(row, layout::KIND_AT);
     let number = memory::get(row, layout::NUMBER_AT);
-    if !visit::target_there(tables, kind, number) {
+    if !target_there(tables, kind, number) {
         return Turn::Misfit;
     }
     let sum = std::num::wrapping_add_u32(memory::get(row, layout::SUM_AT), value);
     let from = memory::get(row, layout::OBJECT_AT) + 1;
-    let object = visit::object_from(tables, kind, number, from);
+    let object = object_from(tables, kind, number, from);
     if object < catalog::object_count(tables) {
         next_turn(text, tables, memory::get(row, layout::NAME_AT), object, sum)
     } else {
@@ -90,7 +77,7 @@ fn activation_turn(text: &[u8], tables: &[u32], row: &[u32], values: &[u32], ste
     let depth = memory::get(row, layout::DEPTH_AT);
     let arg = machine_words::act(row, activation, layout::ARG_AT);
     let got = machine_words::act(row, activation, layout::GOT_AT);
-    line::line_turn(text, tables, values, object, depth, next, arg, got)
+    line_turn(text, tables, values, object, depth, next, arg, got)
 }
 
 // The next step of the message that a row runs, with the steps done on its object; past the last object it answers.

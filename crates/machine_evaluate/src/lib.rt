@@ -16,8 +16,6 @@ ghost use Rattle.text_syntax.specs.Tokens.{saidOperator, saidLeaf};
 ghost use Rattle.machine_words.specs.Turn.{valueIn};
 ghost use Rattle.machine_evaluate.specs.Valued.{valuedAt, valued, joined};
 
-const FIELDS: u32 = 0;
-
 // The sign bit of a word.
 const SIGN: u32 = 2147483648;
 
@@ -69,8 +67,8 @@ fn operate(operator: Operator, x: u32, y: u32) -> u32
 fn field_value(text: &[u8], tables: &[u32], class: u32, own: &[u32], name: &[u8]) -> Value
     ensures { λ r. ⌜ ((arg got : ℕ) → r ≡ valuedAt (valueIn (now (text .entry)) (now (tables .entry)) class (now (own .entry)) arg got (field (now (name .entry)))) (length (now (name .entry)))) ⌝ }
 {
-    let place = catalog::find(text, tables, class, FIELDS, name);
-    if place < catalog::member_count(tables, class, FIELDS) {
+    let place = catalog::find(text, tables, class, layout::FIELDS, name);
+    if place < catalog::member_count(tables, class, layout::FIELDS) {
         Value::Found(memory::get(own, place as usize), name.len())
     } else {
         Value::Nothing

@@ -1,17 +1,5 @@
-pub mod Asked
-pub mod Clashing
-pub mod Locking
-pub mod Begun
-pub mod Way
-pub mod Ahead
-pub mod Circle
-pub mod Holders
-pub mod Own
 pub mod Granted
-pub mod Waits
 pub mod Outcomes
 pub mod Woken
-pub mod Unlocked
 pub mod OneObject
 pub mod Sent
-pub mod Aimed

@@ -10,8 +10,8 @@ use Rattle.catalog.specs.declared.body.Body.the-variants.{Found}
 use Rattle.catalog.specs.Bodies.{namedAt, Bounds, by-place}
 use Rattle.machine_words.specs.Turn.{inTarget, objectFrom}
 use Rattle.machine_words.specs.Request.{Wanted, on, firstOf}
-use Rattle.machine_decide.specs.Visits.{one-there}
-use Rattle.machine_locks.specs.Begun.{first-on}
+use Rattle.machine_targets.specs.Visits.{one-there}
+use Rattle.machine_take.specs.Begun.{first-on}
 
 -- Object o exists, and c is its class.
 pub record ObjectOf (tables : List ℕ) (o c : ℕ) : Type 0 where

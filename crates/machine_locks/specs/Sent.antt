@@ -10,17 +10,16 @@ use Rattle.layout.specs.Layout.{namesAt, kindWords, methodNamesAt, objectClassA
 use Rattle.model.specs.Machine.{object, class, domain, to}
 use Rattle.catalog.specs.View.{classWord, objectWord, classCount, objectCount, memberCount}
 use Rattle.machine_words.specs.Request.{Wanted, lacking}
-use Rattle.machine_words.specs.Calls.{After, tablesOf, refused, wanted, granted, sentTo, sentBy}
+use Rattle.machine_words.specs.Calls.{Lent, After, tablesOf, refused, wanted, granted, sentTo, sentBy}
 use Rattle.machine_locks.specs.OneObject.{ObjectOf, ToObject}
-use Rattle.machine_locks.specs.Clashing.{lacking-other}
+use Rattle.machine_conflicts.specs.Clashing.{lacking-other}
 
 -- ---- the tests
 
 -- A send to a class's own objects or to its domain.
-unfoldable pub classSent : List ℕ → List ℕ → List ℕ → ℕ → ℕ → ℕ → ℕ → ℕ → After
+unfoldable pub classSent : Lent → ℕ → ℕ → ℕ → ℕ → ℕ → After
 unfolding sentTo
-classSent text ws values s kind c k a =
-    cond (ltb c (classCount (tablesOf ws))) (sentTo text ws values s kind c c k a) (refused ws values 36)
+classSent x s kind c k a = cond (ltb c (classCount (tablesOf (x .words)))) (sentTo x s kind c c k a) (refused x 36)
 
 -- The send with its method's name from the word of the class.
 pub wanted-by : (tables : List ℕ) (kind o c k a name : ℕ) → name ≡ classWord tables c (namesAt + (1 * kindWords + k))
@@ -71,56 +70,56 @@ module _ (tables : List ℕ) (c k n : ℕ) (e : n ≡ methodRefusal tables c k) 
   unfolding memberCount
   few = omega (arith, leb-false (memberCount tables c 1) k (passes .1))
 
-module _ (text ws values : List ℕ) (s k a : ℕ) where
-  pub to-class : (c : ℕ) → classSent text ws values s 1 c k a ≡ sentBy text ws values s (to (class c) k a)
+module _ (x : Lent) (s k a : ℕ) where
+  pub to-class : (c : ℕ) → classSent x s 1 c k a ≡ sentBy x s (to (class c) k a)
   unfolding classSent
   to-class c = refl
 
-  pub to-domain : (c : ℕ) → classSent text ws values s 2 c k a ≡ sentBy text ws values s (to (domain c) k a)
+  pub to-domain : (c : ℕ) → classSent x s 2 c k a ≡ sentBy x s (to (domain c) k a)
   unfolding classSent
   to-domain c = refl
 
   module _ (n : ℕ) where
-    pub class-none : (kind c : ℕ) → n ≡ classCount (tablesOf ws) → n ≤ c → refused ws values 36 ≡ classSent text ws values s kind c k a
+    pub class-none : (kind c : ℕ) → n ≡ classCount (tablesOf (x .words)) → n ≤ c → refused x 36 ≡ classSent x s kind c k a
     unfolding classSent
     class-none kind c e h = rw (← e, le-ltb c n h)
 
-    pub class-there : (kind c : ℕ) → n ≡ classCount (tablesOf ws) → c < n → sentTo text ws values s kind c c k a ≡ classSent text ws values s kind c k a
+    pub class-there : (kind c : ℕ) → n ≡ classCount (tablesOf (x .words)) → c < n → sentTo x s kind c c k a ≡ classSent x s kind c k a
     unfolding classSent
     class-there kind c e h = rw (← e, lt-ltb c n h)
 
-    pub object-none : (o : ℕ) → n ≡ objectCount (tablesOf ws) → n ≤ o → refused ws values 36 ≡ sentBy text ws values s (to (object o) k a)
+    pub object-none : (o : ℕ) → n ≡ objectCount (tablesOf (x .words)) → n ≤ o → refused x 36 ≡ sentBy x s (to (object o) k a)
     object-none o e h = rw (← e, le-ltb o n h)
 
-    pub object-there : (o c : ℕ) → n ≡ objectCount (tablesOf ws) → o < n → c ≡ objectWord (tablesOf ws) o objectClassAt
-        → sentTo text ws values s 0 o c k a ≡ sentBy text ws values s (to (object o) k a)
+    pub object-there : (o c : ℕ) → n ≡ objectCount (tablesOf (x .words)) → o < n → c ≡ objectWord (tablesOf (x .words)) o objectClassAt
+        → sentTo x s 0 o c k a ≡ sentBy x s (to (object o) k a)
     object-there o c e h q = rw (← e, lt-ltb o n h, q)
 
   -- The test of the method, then of the locks.
-  module _ (kind o c n : ℕ) (e : n ≡ methodRefusal (tablesOf ws) c k) where
-    pub sent-refused : (n ≡ 0 → ⊥) → refused ws values n ≡ sentTo text ws values s kind o c k a
+  module _ (kind o c n : ℕ) (e : n ≡ methodRefusal (tablesOf (x .words)) c k) where
+    pub sent-refused : (n ≡ 0 → ⊥) → refused x n ≡ sentTo x s kind o c k a
     unfolding sentTo methodRefusal
-    sent-refused z = go (leb (classCount (tablesOf ws)) c) refl (leb (memberCount (tablesOf ws) c 1) k) refl
+    sent-refused z = go (leb (classCount (tablesOf (x .words))) c) refl (leb (memberCount (tablesOf (x .words)) c 1) k) refl
       where
-        go : (x : Bool) → leb (classCount (tablesOf ws)) c ≡ x → (y : Bool) → leb (memberCount (tablesOf ws) c 1) k ≡ y → refused ws values n ≡ sentTo text ws values s kind o c k a
-        go true p y q = rw p (ap (refused ws values) (e ∙ rw p))
-        go false p true q = rw (p, q) (ap (refused ws values) (e ∙ rw (p, q)))
+        go : (t : Bool) → leb (classCount (tablesOf (x .words))) c ≡ t → (y : Bool) → leb (memberCount (tablesOf (x .words)) c 1) k ≡ y → refused x n ≡ sentTo x s kind o c k a
+        go true p y q = rw p (ap (refused x) (e ∙ rw p))
+        go false p true q = rw (p, q) (ap (refused x) (e ∙ rw (p, q)))
         go false p false q = absurd (z (e ∙ rw (p, q)))
 
-    module _ (z : n ≡ 0) (w : Wanted) (r : w ≡ wanted (tablesOf ws) kind o c k a) where
-      past-method : (t : Bool) → lacking text (tablesOf ws) w ≡ t
-          → cond t (refused ws values 24) (granted text ws values s w) ≡ sentTo text ws values s kind o c k a
+    module _ (z : n ≡ 0) (w : Wanted) (r : w ≡ wanted (tablesOf (x .words)) kind o c k a) where
+      past-method : (t : Bool) → lacking (x .text) (tablesOf (x .words)) w ≡ t
+          → cond t (refused x 24) (granted x s w) ≡ sentTo x s kind o c k a
       unfolding sentTo
       past-method t l =
-          let p = passes (tablesOf ws) c k n e z in
-          ap (λ (u : Bool). cond u (refused ws values 24) (granted text ws values s w)) (sym l)
-          ∙ ap (λ (x : Wanted). cond (lacking text (tablesOf ws) x) (refused ws values 24) (granted text ws values s x)) r
+          let p = passes (tablesOf (x .words)) c k n e z in
+          ap (λ (u : Bool). cond u (refused x 24) (granted x s w)) (sym l)
+          ∙ ap (λ (q : Wanted). cond (lacking (x .text) (tablesOf (x .words)) q) (refused x 24) (granted x s q)) r
           ∙ rw (p .0, p .1)
 
-      pub sent-lacking : lacking text (tablesOf ws) w ≡ true → refused ws values 24 ≡ sentTo text ws values s kind o c k a
+      pub sent-lacking : lacking (x .text) (tablesOf (x .words)) w ≡ true → refused x 24 ≡ sentTo x s kind o c k a
       sent-lacking l = past-method true l
 
-      pub sent-there : lacking text (tablesOf ws) w ≡ false → granted text ws values s w ≡ sentTo text ws values s kind o c k a
+      pub sent-there : lacking (x .text) (tablesOf (x .words)) w ≡ false → granted x s w ≡ sentTo x s kind o c k a
       sent-there l = past-method false l
 
 -- ---- an existing object

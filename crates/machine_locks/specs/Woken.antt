@@ -14,8 +14,8 @@ use Rattle.layout.specs.Layout.{waitingAt, waitingWords, lineAt}
 use Rattle.laws.specs.Lists.{both-left}
 use Rattle.machine_words.specs.Request.{Wanted, First, on, past, nowhere, firstOf}
 use Rattle.machine_words.specs.Line.{tablesOf, rowStart, rowOf, phaseOf, waitingIn, wantedIn, countIn, slotAt, inTheWay, obstacle, Waking, keptAt, startedFrom, startedOrKept, wokenOr, isWaiting, wokenSlot, wokenFrom, woken}
-use Rattle.machine_words.specs.Rows.{waiting-part}
-use Rattle.machine_locks.specs.Way.{gathered, least-none, least-some}
+use Rattle.machine_conflicts.specs.Ahead.{waiting-send}
+use Rattle.machine_conflicts.specs.Way.{gathered, least-none, least-some}
 
 -- The words, and how many still wait, are those of the definition.
 pub record Leaving (w : Waking) (waiting : ℕ) (words : List ℕ) : Type 0 where
@@ -64,13 +64,6 @@ module _ (ws : List ℕ) (t : ℕ) where
   unfolding isWaiting
   waiting-slot b e z = ltb-true t 8 (both-left (ltb t 8) (eqb (phaseOf (rowOf ws t)) 3) (sym e ∙ z))
 
-  -- Its waiting send, read from the lent part.
-  pub waiting-send : (q : Wanted) → q ≡ wantedIn (take (rowStart t + waitingAt + waitingWords - (rowStart t + waitingAt)) (drop (rowStart t + waitingAt) ws))
-      → q ≡ wantedIn (waitingIn (rowOf ws t))
-  waiting-send q w =
-      let k : rowStart t + waitingAt + waitingWords - (rowStart t + waitingAt) ≡ waitingWords = omega arith in
-      w ∙ ap (λ (i : ℕ). wantedIn (take i (drop (rowStart t + waitingAt) ws))) k ∙ ap wantedIn (waiting-part ws t)
-
   module _ (text : List ℕ) (n : ℕ) (b : Bool) (e : b ≡ isWaiting ws t) where
     pub leaves-line : b ≡ false → record { waiting = n; words = ws } ≡ wokenSlot text ws n t
     unfolding wokenSlot
@@ -79,7 +72,7 @@ module _ (ws : List ℕ) (t : ℕ) where
     pub wakes-slot : b ≡ true → (q : Wanted) → q ≡ wantedIn (take (rowStart t + waitingAt + waitingWords - (rowStart t + waitingAt)) (drop (rowStart t + waitingAt) ws))
         → wokenOr text ws n t q (obstacle text ws n t q) ≡ wokenSlot text ws n t
     unfolding wokenSlot
-    wakes-slot z q w = rw (← e, z) (ap (λ (x : Wanted). wokenOr text ws n t x (obstacle text ws n t x)) (waiting-send q w))
+    wakes-slot z q w = rw (← e, z) (ap (λ (x : Wanted). wokenOr text ws n t x (obstacle text ws n t x)) (waiting-send ws t q w))
 
 -- The place of a waiting send is one of 32.
 pub few-places : (waiting : List ℕ) (q : Wanted) → q ≡ wantedIn waiting → q .place < 32

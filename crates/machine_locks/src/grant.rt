@@ -1,41 +1,39 @@
 // Grants a send that has passed its tests, or puts it in the line and names the lowest slot in its way.
-use super::First;
-use super::Wanted;
-use super::circle::closes_circle;
-use super::clash::clashing;
-use super::clash::conflicts;
-use super::clash::held_by_all;
-use super::line::waiting_count;
-use super::own::owns_locks;
-use super::start::enter;
-use super::start::first_object;
-use super::start::start_message;
-use super::take::add_lock;
-use super::take::lock;
-use super::take::place_bit;
-use super::wait::join;
-ghost use Prim.Native.Nat.{ℕ, _≤_, _<_};
+use machine_conflicts::circle::closes_circle;
+use machine_conflicts::clash::clashing;
+use machine_conflicts::clash::starts_at_once;
+use machine_conflicts::line::waiting_count;
+use machine_conflicts::own::owns_locks;
+use machine_take::start::enter;
+use machine_take::start::first_object;
+use machine_take::start::start_message;
+use machine_take::take::add_lock;
+use machine_take::take::lock;
+use machine_take::take::place_bit;
+use machine_take::wait::join;
+use machine_words::First;
+use machine_words::Wanted;
+ghost use Prim.Native.Nat.{ℕ, _<_};
 ghost use mathlib.Core.Path.{_≡_};
 ghost use mathlib.Core.Bool.{true};
 ghost use mathlib.Core.List.{List};
-ghost use lib.ListN.{length};
-ghost use Rattle.layout.specs.Layout.{stateWords};
 ghost use Rattle.machine_words.specs.Request.{locked, firstOf, entered};
 ghost use Rattle.machine_words.specs.Line.{tablesOf, rowOf, withRow, countIn, obstacle};
-ghost use Rattle.machine_words.specs.Calls.{startedOr, arrivedOr, granted};
-ghost use Rattle.machine_locks.specs.Asked.{asked};
+ghost use Rattle.machine_words.specs.Calls.{lending, startedOr, arrivedOr, granted};
+ghost use Rattle.machine_words.specs.Said.{asked};
 ghost use Rattle.machine_checks.specs.Told.{Leaves};
 ghost use Rattle.machine_checks.specs.Lent.{Within};
 ghost use Rattle.machine_locks.specs.Outcomes.{outcomeOf};
 ghost use Rattle.machine_locks.specs.OneObject.{ToObject};
-ghost use Rattle.machine_locks.specs.Holders.{startsAtOnce};
+ghost use Rattle.machine_conflicts.specs.Holders.{startsAtOnce};
 
 // Takes a send's locks, and puts its message at its start, which opens a closed slot; answers 0. Answers 24 where its message starts
 // nowhere, and then alters nothing.
 fn start_send(text: &[u8], state: &mut [u32], slot: u32, wanted: Wanted) -> u32
     requires { ⌜ Within (now state) slot × (wanted .place < 32) ⌝ }
-    ensures { λ r. ⌜ ((values : List ℕ) → Leaves (startedOr (now (text .entry)) (now (state .entry)) values slot (asked wanted)
-        (firstOf (now (text .entry)) (tablesOf (now (state .entry))) (asked wanted))) (outcomeOf r) (now (state .exit)) values) ⌝ }
+    ensures { λ r. ⌜ ((values : List ℕ) → Leaves (startedOr (lending (now (text .entry)) (now (state .entry)) values) slot (asked wanted)
+        (firstOf (now (text .entry)) (tablesOf (now (state .entry))) (asked wanted)))
+        (outcomeOf r) (lending (now (text .entry)) (now (state .exit)) values)) ⌝ }
 {
     let first = first_object(text, &state[0..layout::TABLE_WORDS], wanted);
     if let First::Nowhere = first {
@@ -51,8 +49,9 @@ fn start_send(text: &[u8], state: &mut [u32], slot: u32, wanted: Wanted) -> u32
 // close a circle of waits, and 24 where the line has no place for it.
 fn arrive(text: &[u8], state: &mut [u32], slot: u32, wanted: Wanted) -> u32
     requires { ⌜ Within (now state) slot × (wanted .place < 32) ⌝ }
-    ensures { λ r. ⌜ ((values : List ℕ) → Leaves (arrivedOr (now (text .entry)) (now (state .entry)) values slot (asked wanted)
-        (obstacle (now (text .entry)) (now (state .entry)) (countIn (now (state .entry))) slot (asked wanted))) (outcomeOf r) (now (state .exit)) values) ⌝ }
+    ensures { λ r. ⌜ ((values : List ℕ) → Leaves (arrivedOr (lending (now (text .entry)) (now (state .entry)) values) slot (asked wanted)
+        (obstacle (now (text .entry)) (now (state .entry)) (countIn (now (state .entry))) slot (asked wanted)))
+        (outcomeOf r) (lending (now (text .entry)) (now (state .exit)) values)) ⌝ }
 {
     let count = waiting_count(state);
     let mask = clashing(text, state, count, slot, wanted);
@@ -60,7 +59,7 @@ fn arrive(text: &[u8], state: &mut [u32], slot: u32, wanted: Wanted) -> u32
         return start_send(text, state, slot, wanted);
     }
     if count < layout::SLOTS {
-        if closes_circle(text, state, count, slot, wanted) {
+        if closes_circle(text, state, slot, wanted) {
             return 42;
         }
         join(text, state, count, slot, wanted);
@@ -72,7 +71,8 @@ fn arrive(text: &[u8], state: &mut [u32], slot: u32, wanted: Wanted) -> u32
 // Grants a send, at once where its slot holds its locks already; or puts it in the line.
 pub(crate) fn grant(text: &[u8], state: &mut [u32], slot: u32, wanted: Wanted) -> u32
     requires { ⌜ Within (now state) slot × (wanted .place < 32) ⌝ }
-    ensures { λ r. ⌜ ((values : List ℕ) → Leaves (granted (now (text .entry)) (now (state .entry)) values slot (asked wanted)) (outcomeOf r) (now (state .exit)) values) ⌝ }
+    ensures { λ r. ⌜ ((values : List ℕ) → Leaves (granted (lending (now (text .entry)) (now (state .entry)) values) slot (asked wanted))
+        (outcomeOf r) (lending (now (text .entry)) (now (state .exit)) values)) ⌝ }
 {
     let start = layout::TABLE_WORDS + slot as usize * layout::ROW_WORDS;
     let end = start + layout::ROW_WORDS;
@@ -87,29 +87,7 @@ pub(crate) fn grant(text: &[u8], state: &mut [u32], slot: u32, wanted: Wanted) -
     arrive(text, state, slot, wanted)
 }
 
-// Whether a send to an object can start at once: nobody waits, no slot holds a conflict, and the body is at its place in the object's
-// class.
-fn starts_at_once(state: &[u32], wanted: Wanted) -> bool
-    requires { ⌜ stateWords ≤ length (now state) ⌝ }
-    ensures { λ r. ⌜ r ≡ startsAtOnce (now (state .entry)) (asked wanted) ⌝ }
-{
-    if memory::get(state, layout::LINE_AT) != 0 {
-        return false;
-    }
-    let word = layout::OBJECT_LOCKS_AT + wanted.number as usize;
-    let methods = conflicts(&state[0..layout::TABLE_WORDS], wanted.class, wanted.place);
-    if held_by_all(state, word, wanted.class) & methods != 0 {
-        return false;
-    }
-    catalog::body::named_at(
-        &state[0..layout::TABLE_WORDS],
-        wanted.class,
-        wanted.place,
-        wanted.name,
-    )
-}
-
-// Takes the locks of such a send, and puts its message at its start, in its slot's row.
+// Takes the locks of a send to an object that can start at once, and puts its message at its start, in its slot's row.
 fn take_object(state: &mut [u32], slot: u32, wanted: Wanted)
     requires { ⌜ Within (now state) slot × ToObject (tablesOf (now state)) (asked wanted) × (startsAtOnce (now state) (asked wanted) ≡ true) ⌝ }
     ensures { λ _. ⌜ ((text : List ℕ) → now (state .exit) ≡ withRow (now (state .entry)) slot (entered (asked wanted) (firstOf text (tablesOf (now (state .entry))) (asked wanted))
@@ -129,7 +107,8 @@ fn take_object(state: &mut [u32], slot: u32, wanted: Wanted)
 // nothing of it need be in memory for those that start at once.
 pub(crate) fn grant_object(text: &[u8], state: &mut [u32], slot: u32, wanted: Wanted) -> u32
     requires { ⌜ Within (now state) slot × ToObject (tablesOf (now state)) (asked wanted) ⌝ }
-    ensures { λ r. ⌜ ((values : List ℕ) → Leaves (granted (now (text .entry)) (now (state .entry)) values slot (asked wanted)) (outcomeOf r) (now (state .exit)) values) ⌝ }
+    ensures { λ r. ⌜ ((values : List ℕ) → Leaves (granted (lending (now (text .entry)) (now (state .entry)) values) slot (asked wanted))
+        (outcomeOf r) (lending (now (text .entry)) (now (state .exit)) values)) ⌝ }
 {
     if starts_at_once(state, wanted) {
         take_object(state, slot, wanted);

@@ -1,31 +1,23 @@
 // A send's request for its locks: the tests of its target and method, then its grant.
-use super::Wanted;
 use super::grant::grant;
 use super::grant::grant_object;
+use machine_conflicts::clash::domain_lacks;
+use machine_words::Target;
+use machine_words::Wanted;
 ghost use Prim.Native.Nat.{ℕ};
 ghost use mathlib.Core.Path.{_≡_};
 ghost use mathlib.Core.List.{List};
 ghost use Rattle.model.specs.Machine.{object, to};
-ghost use Rattle.machine_words.specs.Calls.{tablesOf, wanted, sentTo, sentBy};
-ghost use Rattle.machine_locks.specs.Asked.{asked};
+ghost use Rattle.machine_words.specs.Calls.{lending, tablesOf, wanted, sentTo, sentBy};
+ghost use Rattle.machine_words.specs.Said.{asked, aimed};
 ghost use Rattle.machine_checks.specs.Told.{Leaves};
 ghost use Rattle.machine_checks.specs.Lent.{Within};
-ghost use Rattle.machine_locks.specs.Aimed.{aimed};
 ghost use Rattle.machine_locks.specs.Outcomes.{outcomeOf};
 ghost use Rattle.machine_locks.specs.OneObject.{ObjectOf};
 ghost use Rattle.machine_locks.specs.Sent.{methodRefusal, classSent};
 
-const METHODS: u32 = 1;
-
 // 01's number where the target's class has no such method.
 const NO_METHOD: u32 = 36;
-
-// The target of a send, by number: an object, a class's own objects, or a class's domain.
-pub enum Target {
-    Object(u32),
-    Class(u32),
-    Domain(u32),
-}
 
 // 24 where there is no such class, 36 where it has no such method; else 0.
 fn method_refusal(tables: &[u32], class: u32, place: u32) -> u32
@@ -34,7 +26,7 @@ fn method_refusal(tables: &[u32], class: u32, place: u32) -> u32
     if catalog::class_count(tables) <= class {
         return 24;
     }
-    if catalog::member_count(tables, class, METHODS) <= place {
+    if catalog::member_count(tables, class, layout::METHODS) <= place {
         return NO_METHOD;
     }
     0
@@ -51,7 +43,7 @@ fn wanted_of(
 ) -> Wanted
     ensures { λ r. ⌜ asked r ≡ wanted (now (tables .entry)) kind number class place argument ⌝ }
 {
-    let name = catalog::member_word(tables, class, METHODS, place) % 1048576;
+    let name = catalog::member_word(tables, class, layout::METHODS, place) % layout::ORIGIN_UNIT;
     Wanted {
         kind,
         number,
@@ -75,7 +67,8 @@ fn send_to(
     argument: u32,
 ) -> u32
     requires { ⌜ Within (now state) slot ⌝ }
-    ensures { λ r. ⌜ ((values : List ℕ) → Leaves (sentTo (now (text .entry)) (now (state .entry)) values slot kind number class place argument) (outcomeOf r) (now (state .exit)) values) ⌝ }
+    ensures { λ r. ⌜ ((values : List ℕ) → Leaves (sentTo (lending (now (text .entry)) (now (state .entry)) values) slot kind number class place argument)
+        (outcomeOf r) (lending (now (text .entry)) (now (state .exit)) values)) ⌝ }
 {
     let fault = method_refusal(&state[0..layout::TABLE_WORDS], class, place);
     if fault != 0 {
@@ -89,7 +82,7 @@ fn send_to(
         place,
         argument,
     );
-    if super::clash::domain_lacks(text, &state[0..layout::TABLE_WORDS], wanted) {
+    if domain_lacks(text, &state[0..layout::TABLE_WORDS], wanted) {
         return 24;
     }
     grant(text, state, slot, wanted)
@@ -106,7 +99,8 @@ fn send_to_object(
     argument: u32,
 ) -> u32
     requires { ⌜ Within (now state) slot × ObjectOf (tablesOf (now state)) number class ⌝ }
-    ensures { λ r. ⌜ ((values : List ℕ) → Leaves (sentTo (now (text .entry)) (now (state .entry)) values slot 0 number class place argument) (outcomeOf r) (now (state .exit)) values) ⌝ }
+    ensures { λ r. ⌜ ((values : List ℕ) → Leaves (sentTo (lending (now (text .entry)) (now (state .entry)) values) slot 0 number class place argument)
+        (outcomeOf r) (lending (now (text .entry)) (now (state .exit)) values)) ⌝ }
 {
     let refusal = method_refusal(&state[0..layout::TABLE_WORDS], class, place);
     if refusal != 0 {
@@ -133,7 +127,8 @@ fn send_object(
     argument: u32,
 ) -> u32
     requires { ⌜ Within (now state) slot ⌝ }
-    ensures { λ r. ⌜ ((values : List ℕ) → Leaves (sentBy (now (text .entry)) (now (state .entry)) values slot (to (object number) place argument)) (outcomeOf r) (now (state .exit)) values) ⌝ }
+    ensures { λ r. ⌜ ((values : List ℕ) → Leaves (sentBy (lending (now (text .entry)) (now (state .entry)) values) slot (to (object number) place argument))
+        (outcomeOf r) (lending (now (text .entry)) (now (state .exit)) values)) ⌝ }
 {
     if catalog::object_count(&state[0..layout::TABLE_WORDS]) <= number {
         return 36;
@@ -153,7 +148,8 @@ fn send_class(
     argument: u32,
 ) -> u32
     requires { ⌜ Within (now state) slot ⌝ }
-    ensures { λ r. ⌜ ((values : List ℕ) → Leaves (classSent (now (text .entry)) (now (state .entry)) values slot kind class place argument) (outcomeOf r) (now (state .exit)) values) ⌝ }
+    ensures { λ r. ⌜ ((values : List ℕ) → Leaves (classSent (lending (now (text .entry)) (now (state .entry)) values) slot kind class place argument)
+        (outcomeOf r) (lending (now (text .entry)) (now (state .exit)) values)) ⌝ }
 {
     if catalog::class_count(&state[0..layout::TABLE_WORDS]) <= class {
         return 36;
@@ -172,7 +168,8 @@ pub fn request(
     argument: u32,
 ) -> u32
     requires { ⌜ Within (now state) slot ⌝ }
-    ensures { λ r. ⌜ ((values : List ℕ) → Leaves (sentBy (now (text .entry)) (now (state .entry)) values slot (to (aimed target) place argument)) (outcomeOf r) (now (state .exit)) values) ⌝ }
+    ensures { λ r. ⌜ ((values : List ℕ) → Leaves (sentBy (lending (now (text .entry)) (now (state .entry)) values) slot (to (aimed target) place argument))
+        (outcomeOf r) (lending (now (text .entry)) (now (state .exit)) values)) ⌝ }
 {
     match target {
         Target::Object(object) => send_object(text, state, slot, object, place, argument),

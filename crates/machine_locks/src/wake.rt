@@ -1,23 +1,22 @@
 // Wakes those who wait, when a transaction has ended: from the front, each starts that no holder and no one still ahead is in the way of.
-use super::First;
-use super::Wanted;
-use super::clash::clashing;
-use super::line::slot_at;
-use super::line::waiting_count;
-use super::start::first_object;
-use super::start::start_message;
-use super::take::lock;
-use super::wait::wanted_in;
-use super::wait::withdraw;
+use machine_conflicts::clash::clashing;
+use machine_conflicts::line::slot_at;
+use machine_conflicts::line::waiting_count;
+use machine_conflicts::line::wanted_in;
+use machine_take::start::first_object;
+use machine_take::start::start_message;
+use machine_take::take::lock;
+use machine_take::wait::withdraw;
+use machine_words::First;
+use machine_words::Wanted;
 ghost use Prim.Native.Nat.{suc, _≤_, _<_};
 ghost use mathlib.Core.Path.{_≡_};
 ghost use lib.ListN.{length};
 ghost use Rattle.layout.specs.Layout.{stateWords};
 ghost use Rattle.machine_words.specs.Request.{locked, entered};
 ghost use Rattle.machine_words.specs.Line.{tablesOf, rowOf, withRow, withdrawn, isWaiting, withPlace, wokenOr, obstacle, wokenSlot, woken};
+ghost use Rattle.machine_words.specs.Said.{asked, saidFirst};
 ghost use Rattle.machine_checks.specs.Lent.{Within};
-ghost use Rattle.machine_locks.specs.Asked.{asked};
-ghost use Rattle.machine_locks.specs.Begun.{saidFirst};
 ghost use Rattle.machine_locks.specs.Woken.{Leaving};
 
 // Starts a slot's waiting send, which leaves the line.
@@ -66,7 +65,7 @@ fn is_waiting(state: &[u32], slot: u32) -> bool
     if layout::SLOTS <= slot {
         return false;
     }
-    machine_checks::phase_of(state, slot) == 3
+    machine_checks::phase_of(state, slot) == layout::WAITING
 }
 
 // Wakes one slot of the line; one that does not wait leaves the line. Answers how many are ahead of the next one.

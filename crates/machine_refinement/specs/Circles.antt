@@ -18,9 +18,9 @@ use Rattle.laws.specs.Basics.{at-or, put-same, put-other}
 use Rattle.laws.specs.Leads.{leads-same}
 use Rattle.catalog.specs.View.{classCount, memberCount}
 use Rattle.machine_words.specs.Request.{Wanted}
-use Rattle.machine_words.specs.Line.{waitingIn, wantedIn, countIn, firstInLine, slotAt, waitsFrom, closesCircle}
+use Rattle.machine_words.specs.Line.{waitingIn, wantedIn, countIn, slotAt, waitsFrom, closesCircle}
 use Rattle.machine_words.specs.Line as Words
-use Rattle.machine_words.specs.Calls.{tablesOf, rowOf, wanted}
+use Rattle.machine_words.specs.Calls.{Lent, tablesOf, rowOf, wanted}
 use Rattle.machine_refinement.specs.Rep.{Aims, messageFor, Waits, RepAt, Rep}
 use Rattle.machine_refinement.specs.Obstacles.{way-is}
 use Rattle.machine_refinement.specs.Waking.{count-is}
@@ -62,9 +62,15 @@ module _ (p : Program) where
 
 -- ---- the words' line
 
-module _ (text ws values : List ℕ) (p : Program) (w : World (service p)) (rep : Rep text ws values p w) where
+module _ (lent : Lent) (p : Program) (w : World (service p)) (rep : Rep lent p w) where
+  abbrev text : List ℕ
+  text = lent .text
+
+  abbrev ws : List ℕ
+  ws = lent .words
+
   -- The line up to a place.
-  front : (xs ys : Line p) → w .line ≡ xs ++ ys → RepAt text ws values p (record { fields = w .fields; slots = w .slots; line = xs }) (length xs) (w .line)
+  front : (xs ys : Line p) → w .line ≡ xs ++ ys → RepAt lent p (record { fields = w .fields; slots = w .slots; line = xs }) (length xs) (w .line)
   front xs ys e =
       record {
         fit = rep .fit;
@@ -72,7 +78,7 @@ module _ (text ws values : List ℕ) (p : Program) (w : World (service p)) (rep 
         fields = rep .fields;
         slots = rep .slots;
         places =
-            sym (take-take (length xs) (countIn ws) (drop firstInLineAt ws) (omega (arith, count-is text ws values p w rep, ap length e, length-append xs ys)))
+            sym (take-take (length xs) (countIn ws) (drop firstInLineAt ws) (omega (arith, count-is lent p w rep, ap length e, length-append xs ys)))
             ∙ ap (take (length xs)) (rep .places ∙ ap (map (λ v. v .slot)) e ∙ map-append (λ v. v .slot) xs ys)
             ∙ ap (λ (n : ℕ). take n (map (λ v. v .slot) xs ++ map (λ v. v .slot) ys)) (sym (length-map xs (λ v. v .slot)))
             ∙ take-append-seam (map (λ v. v .slot) xs) (map (λ v. v .slot) ys);
@@ -86,7 +92,7 @@ module _ (text ws values : List ℕ) (p : Program) (w : World (service p)) (rep 
   slot-there : (xs : Line p) (v : Waiter (service p)) (ys : Line p) → w .line ≡ xs ++ (v ∷ ys) → slotAt ws (length xs) ≡ v .slot
   slot-there xs v ys e =
       sym (getD-drop firstInLineAt ws (length xs) 0)
-      ∙ sym (getD-take (countIn ws) (drop firstInLineAt ws) (length xs) 0 (omega (arith, count-is text ws values p w rep, ap length e, length-append xs (v ∷ ys))))
+      ∙ sym (getD-take (countIn ws) (drop firstInLineAt ws) (length xs) 0 (omega (arith, count-is lent p w rep, ap length e, length-append xs (v ∷ ys))))
       ∙ ap (λ (l : List ℕ). getD l (length xs) 0) (rep .places ∙ ap (map (λ v. v .slot)) e ∙ map-append (λ v. v .slot) xs (v ∷ ys))
       ∙ ap (λ (n : ℕ). getD (map (λ v. v .slot) xs ++ (v .slot ∷ map (λ v. v .slot) ys)) n 0) (sym (length-map xs (λ v. v .slot)))
       ∙ getD-append-seam (map (λ v. v .slot) xs) (v .slot) (map (λ v. v .slot) ys) 0
@@ -96,7 +102,7 @@ module _ (text ws values : List ℕ) (p : Program) (w : World (service p)) (rep 
       → Words.inTheWay text ws (length xs) u (wantedIn (waitingIn (rowOf ws u))) t ≡ inTheWay (service p) (w .slots) xs u (v .message) t
   way-there xs v ys e u t same b =
       ap (λ (q : Wanted). Words.inTheWay text ws (length xs) u q t) (y .wants)
-      ∙ way-is text ws values p (record { fields = w .fields; slots = w .slots; line = xs }) (front xs (v ∷ ys) e)
+      ∙ way-is lent p (record { fields = w .fields; slots = w .slots; line = xs }) (front xs (v ∷ ys) e)
       (λ x i. subst (List·Memᴰ x) (sym e) (Memᴰ·append-left (v ∷ ys) i))
       (y .class) (y .place) (y .argument) (y .known) (y .has) (y .kind) (y .number) (y .target) (y .aims) u t b
       ∙ ap (λ (m : Message). inTheWay (service p) (w .slots) xs u m t) (sym (y .sends))
@@ -139,8 +145,8 @@ module _ (text ws values : List ℕ) (p : Program) (w : World (service p)) (rep 
     unfolding Words.waitsFor
     relation-is u t low b =
         ap₂ (λ (x y : Bool). x || (eqb s u && y))
-        (ap (λ (i : ℕ). waitsFrom text ws 0 i u t) (count-is text ws values p w rep) ∙ waits-is [] (w .line) refl u t b)
-        (way-is text ws values p w rep (λ v i. i) c k a l has kind n x aims u t b)
+        (ap (λ (i : ℕ). waitsFrom text ws 0 i u t) (count-is lent p w rep) ∙ waits-is [] (w .line) refl u t b)
+        (way-is lent p w rep (λ v i. i) c k a l has kind n x aims u t b)
         ∙ sym (waits-held p (joined (service p) w s m .slots) (w .slots) held-same [] (joined (service p) w s m .line) u t
         ∙ waits-last p (w .slots) [] (w .line) (record { slot = s; message = m }) u t)
 

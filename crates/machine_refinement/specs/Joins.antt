@@ -24,7 +24,7 @@ use Rattle.catalog.specs.View.{classCount, memberCount}
 use Rattle.machine_words.specs.Request.{Wanted, namedRow, locked}
 use Rattle.machine_words.specs.Row.{blank}
 use Rattle.machine_words.specs.Line.{wantedIn, requested, waitingRow, countIn, withPlace}
-use Rattle.machine_words.specs.Calls.{tablesOf, rowOf, phaseOf, withRow, wanted}
+use Rattle.machine_words.specs.Calls.{Lent, withWords, tablesOf, rowOf, phaseOf, withRow, wanted}
 use Rattle.machine_refinement.specs.Rep.{Holds, NowRep, OpenRep, SlotRep, methodOf, Aims, messageFor, Waits, settled, RepAt, Rep}
 use Rattle.machine_refinement.specs.Runs.{note-same}
 use Rattle.machine_refinement.specs.Stores.{else-word, new-word}
@@ -146,11 +146,17 @@ module _ (q : Wanted) where
 
 -- ---- the row and the line
 
-module _ (text ws values : List ℕ) (p : Program) (w₀ : World (service p)) (rep : Rep text ws values p (withFields (service p) w₀ values))
-    (s : ℕ) (h : s < 8) (idle : standing (service p) (w₀ .slots s) .running ≡ none) (still : phaseOf (rowOf ws s) ≢ 3)
-    (c k a : ℕ) (l : c < classCount (tablesOf ws)) (has : k < memberCount (tablesOf ws) c 1) (kind n : ℕ) (x : Target) (aims : Aims (tablesOf ws) c kind n x) where
+module _ (lent : Lent) (p : Program) (w₀ : World (service p)) (rep : Rep lent p (withFields (service p) w₀ (lent .values)))
+    (s : ℕ) (h : s < 8) (idle : standing (service p) (w₀ .slots s) .running ≡ none) (still : phaseOf (rowOf (lent .words) s) ≢ 3)
+    (c k a : ℕ) (l : c < classCount (tablesOf (lent .words))) (has : k < memberCount (tablesOf (lent .words)) c 1) (kind n : ℕ) (x : Target) (aims : Aims (tablesOf (lent .words)) c kind n x) where
+  abbrev text : List ℕ
+  text = lent .text
+
+  abbrev ws : List ℕ
+  ws = lent .words
+
   abbrev w : World (service p)
-  w = withFields (service p) w₀ values
+  w = withFields (service p) w₀ (lent .values)
 
   abbrev tables : List ℕ
   tables = tablesOf ws
@@ -168,7 +174,7 @@ module _ (text ws values : List ℕ) (p : Program) (w₀ : World (service p)) (r
   t = standing (service p) (w₀ .slots s)
 
   size : length row ≡ rowWords
-  size = row-size text ws values p w rep s h
+  size = row-size lent p w rep s h
 
   before : StandingRep p row t
   before = slot-stands text tables p row (w₀ .slots s)
@@ -228,11 +234,11 @@ module _ (text ws values : List ℕ) (p : Program) (w₀ : World (service p)) (r
   newcomer = record { slot = s; message = m }
 
   away : (v : Waiter (service p)) → List·Memᴰ v (w₀ .line) → v .slot ≢ s
-  away = not-waiting text ws values p w rep s h still
+  away = not-waiting lent p w rep s h still
 
-  waits-then : RepAt text (withRow ws s row′) values p (withSlot (service p) w s (opened t)) (countIn ws) (w₀ .line ++ (newcomer ∷ []))
+  waits-then : RepAt (withWords lent (withRow ws s row′)) p (withSlot (service p) w s (opened t)) (countIn ws) (w₀ .line ++ (newcomer ∷ []))
   waits-then =
-      altered text ws values p w₀ rep s h row′ values (written-long row size words long 3) refl (opened t) stays (w₀ .line ++ (newcomer ∷ []))
+      altered lent p w₀ rep s h row′ (lent .values) (written-long row size words long 3) refl (opened t) stays (w₀ .line ++ (newcomer ∷ []))
       (λ v i. ⊎-elim (λ j. inr (away v j, j)) (λ j. inl (own v (List·Memᴰ·eq-of-singleton j))) (List·Memᴰ·append-cases (w₀ .line) i))
       (λ v i ne. Memᴰ·append-left (newcomer ∷ []) i)
       (λ e. (newcomer, Memᴰ·append-right (w₀ .line) (List·Memᴰ·head refl), refl))
@@ -246,11 +252,13 @@ module _ (text ws values : List ℕ) (p : Program) (w₀ : World (service p)) (r
   room =
       omega (
         arith,
-        count-is text ws values p w rep,
+        count-is lent p w rep,
         length-append (w₀ .line) (newcomer ∷ []),
         few-slots p 8 (w₀ .line ++ (newcomer ∷ [])) (waits-then .once) (waits-then .below),
       )
 
-  pub joins : Rep text (set (withPlace (withRow ws s (waitingRow text tables q row)) (countIn ws) s) lineAt (suc (countIn ws))) values p (joined (service p) w s m)
+  pub joins : Rep (withWords lent (set (withPlace (withRow ws s (waitingRow text tables q row)) (countIn ws) s) lineAt (suc (countIn ws)))) p (joined (service p) w s m)
   unfolding waitingRow
-  joins = counted text (withPlace (withRow ws s row′) (countIn ws) s) values p (joined (service p) w s m) (placed text (withRow ws s row′) values p (withSlot (service p) w s (opened t)) waits-then room newcomer) (omega (arith, room))
+  joins =
+      counted (withWords lent (withPlace (withRow ws s row′) (countIn ws) s)) p (joined (service p) w s m)
+      (placed (withWords lent (withRow ws s row′)) p (withSlot (service p) w s (opened t)) waits-then room newcomer) (omega (arith, room))

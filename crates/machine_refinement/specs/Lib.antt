@@ -10,7 +10,6 @@ pub mod Visits
 pub mod Outcomes
 pub mod Statements
 pub mod Step
-pub mod Counts
 pub mod Locks
 pub mod Clashes
 pub mod RowTest
@@ -28,6 +27,3 @@ pub mod Transitions
 pub mod Sends
 pub mod Refines
 pub mod Refusals
-pub mod Course
-pub mod Moment
-pub mod Example

@@ -19,7 +19,7 @@ use Rattle.laws.specs.Lists.{none-any}
 use Rattle.catalog.specs.View.{classCount, memberCount}
 use Rattle.machine_words.specs.Request.{Wanted, rowMeets}
 use Rattle.machine_words.specs.Line.{waitingIn, holderAt, waiterAt, inTheWay, obstacle}
-use Rattle.machine_words.specs.Calls.{tablesOf, rowOf, phaseOf, wanted}
+use Rattle.machine_words.specs.Calls.{Lent, tablesOf, rowOf, phaseOf, wanted}
 use Rattle.machine_refinement.specs.Rep.{SlotRep, methodOf, Aims, messageFor, settled, Waits, RepAt}
 use Rattle.machine_refinement.specs.Locks.{holds-alike}
 use Rattle.machine_refinement.specs.RowTest.{row-clash}
@@ -44,8 +44,14 @@ eqb-swap a b = go (eqb a b) refl
     go true e = sym (eq-eqb b a (sym (eqb-true a b e)))
     go false e = sym (ne-eqb b a (λ x. eqb-false a b e (sym x)))
 
-module _ (text ws values : List ℕ) (p : Program) (w : World (service p)) {n : ℕ} {all : List (Waiter (service p))} (rep : RepAt text ws values p w n all)
+module _ (lent : Lent) (p : Program) (w : World (service p)) {n : ℕ} {all : List (Waiter (service p))} (rep : RepAt lent p w n all)
     (within : (v : Waiter (service p)) → List·Memᴰ v (w .line) → List·Memᴰ v all) where
+  abbrev text : List ℕ
+  text = lent .text
+
+  abbrev ws : List ℕ
+  ws = lent .words
+
   abbrev tables : List ℕ
   tables = tablesOf ws
 
@@ -68,12 +74,12 @@ module _ (text ws values : List ℕ) (p : Program) (w : World (service p)) {n : 
 
         go : (z : Slot (service p)) → w .slots u ≡ z → SlotRep text tables p (settled row) z → (not (eqb (phaseOf row) 0) && rowMeets text tables q row) ≡ clash (heldBy (service p) z)
         go closed is e =
-            ap (λ (i : ℕ). not (eqb i 0) && rowMeets text tables q row) (closed-phase text ws values p w rep u b is) ∙ sym (no-clash p (locksFor p x (methodOf p c k)))
+            ap (λ (i : ℕ). not (eqb i 0) && rowMeets text tables q row) (closed-phase lent p w rep u b is) ∙ sym (no-clash p (locksFor p x (methodOf p c k)))
         go (opened y) is o =
             ap (λ (t : Bool). not t && rowMeets text tables q row)
-            (ne-eqb (phaseOf row) 0 (λ z. opened-not (sym is ∙ phase-closed text ws values p w rep u b z)))
+            (ne-eqb (phaseOf row) 0 (λ z. opened-not (sym is ∙ phase-closed lent p w rep u b z)))
             ∙ row-clash text tables p (rep .fits) c k a l has row (y .locks)
-            (holds-alike text tables p (rep .fits) (settled row) row (y .locks) (settled-locks row (row-size text ws values p w rep u b)) (o .locks)) kind number x aims
+            (holds-alike text tables p (rep .fits) (settled row) row (y .locks) (settled-locks row (row-size lent p w rep u b)) (o .locks)) kind number x aims
           where
             is-open : Slot (service p) → Type 0
             is-open closed = ⊥

@@ -9,8 +9,8 @@ use Rattle.layout.specs.Layout.{depthAt, stepsAt, objectAt}
 use Rattle.model.specs.Form.{Statement}
 use Rattle.model.specs.Vector.{Program}
 use Rattle.model.specs.Message.{Effect, idle, look, Activation, Run, Outcome, goes, ends, stops, onward, inBody, onObject, limited, turn}
-use Rattle.theory.specs.Named.{NamedBody}
-use Rattle.theory.specs.NamedRuns.{classOn, NamedOn, NamedRun}
+use Rattle.text_theory.specs.Named.{NamedBody}
+use Rattle.text_theory.specs.NamedRuns.{classOn, NamedOn, NamedRun}
 use Rattle.catalog.specs.View.{objectCount}
 use Rattle.machine_words.specs.Row.{Turn, stop, answer, carried}
 use Rattle.machine_refinement.specs.Rep.{Fits, Running, messageOf, activationOf, stackOf, objectsFrom, runOf}

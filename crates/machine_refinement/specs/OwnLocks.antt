@@ -19,7 +19,7 @@ use Rattle.model.specs.Lock.{Lock, onObject, onClass, domainOf, locksFor, sameL
 use Rattle.laws.specs.Bits.{bit}
 use Rattle.laws.specs.Lists.{none-any}
 use Rattle.laws.specs.Lookup.{place-known, name-known}
-use Rattle.theory.specs.NamedRuns.{domain-methods}
+use Rattle.text_theory.specs.NamedRuns.{domain-methods}
 use Rattle.catalog.specs.View.{classCount, memberCount}
 use Rattle.machine_words.specs.Request.{Wanted, concerns, lacks, lacking, misses, ownsLocks}
 use Rattle.machine_words.specs.Calls.{wanted}

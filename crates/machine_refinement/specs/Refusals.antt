@@ -2,12 +2,11 @@
 use Prim.Native.Nat.{ℕ, _≤_}
 use native.Mathlib.Omega.{arith}
 use mathlib.Core.Path.{_≡_, sym, ap, _∙_}
-use mathlib.Core.List.{List}
 use Rattle.model.specs.Vector.{Program}
 use Rattle.model.specs.Service.{Answer, done, going, answer, refuse, held, stopped, World}
 use Rattle.model.specs.Machine.{service, Call, call}
 use Rattle.twophase.specs.Moves.{Move, refused, closes-circle, joins, starts, goes-on, replies, halts, commits, aborts, moves}
-use Rattle.machine_words.specs.Calls.{called}
+use Rattle.machine_words.specs.Calls.{Lent, called}
 use Rattle.machine_refinement.specs.Rep.{Rep}
 use Rattle.machine_refinement.specs.Refines.{refines}
 
@@ -33,8 +32,8 @@ move-number (commits s y below o still n) = omega arith
 move-number (aborts s y below o) = omega arith
 
 -- On words that represent a world no call gives 21 or 24: every number that it refuses with is 31 or more.
-pub never-unfit : (text ws values : List ℕ) (p : Program) (w : World (service p)) → Rep text ws values p w → (c : Call) (n : ℕ)
-    → called text ws values c .answered ≡ refuse n → 31 ≤ n
-never-unfit text ws values p w rep c n e =
-    let same : refusal (call p w c .0) ≡ n = ap refusal (sym (refines text ws values p w rep c .0) ∙ e) in
+pub never-unfit : (lent : Lent) (p : Program) (w : World (service p)) → Rep lent p w → (c : Call) (n : ℕ)
+    → called lent c .answered ≡ refuse n → 31 ≤ n
+never-unfit lent p w rep c n e =
+    let same : refusal (call p w c .0) ≡ n = ap refusal (sym (refines lent p w rep c .0) ∙ e) in
     omega (arith, move-number (moves (service p) w c))

@@ -21,15 +21,15 @@ use Rattle.model.specs.Lock.{Lock, onObject, onClass, locksFor, lockMethod, sam
 use Rattle.model.specs.Service.{Slot, closed, opened, Transaction, Waiter, World}
 use Rattle.model.specs.Machine.{service}
 use Rattle.twophase.specs.Line.{Once}
-use Rattle.theory.specs.Copies.{Copied}
-use Rattle.theory.specs.Named.{Names}
-use Rattle.theory.specs.NamedRuns.{NamedRun}
+use Rattle.text_theory.specs.Copies.{Copied}
+use Rattle.text_theory.specs.Named.{Names}
+use Rattle.text_theory.specs.NamedRuns.{NamedRun}
 use Rattle.catalog.specs.View.{nameOf, partOf, classWord, objectWord, statementWord, classCount, objectCount, statementCount, memberCount, libraryOf}
 use Rattle.laws.specs.Bits.{bit}
 use Rattle.machine_words.specs.Row.{act, noteAt, blank}
 use Rattle.machine_words.specs.Turn.{targetThere}
 use Rattle.machine_words.specs.Line.{waitingIn, wantedIn, withdrawn, countIn, firstInLine}
-use Rattle.machine_words.specs.Calls.{tablesOf, rowOf, phaseOf, misfitOf, wanted}
+use Rattle.machine_words.specs.Calls.{Lent, tablesOf, rowOf, phaseOf, misfitOf, wanted}
 
 -- ---- what a row represents
 
@@ -223,25 +223,25 @@ settled row = cond (eqb (phaseOf row) 3) (withdrawn row) row
 
 -- ---- worlds
 
--- The lent text, words and values represent a world of the program, where the first n places of the line are the world's, and `all` are
--- those who wait: in the middle of waking they are more than the world's line.
-pub record RepAt (text ws values : List ℕ) (p : Program) (w : World (service p)) (n : ℕ) (all : List (Waiter (service p))) : Type 0 where
-  pub fit : misfitOf text ws values ≡ 0
-  pub fits : Fits text (tablesOf ws) p
-  pub fields : w .fields ≡ values
-  pub slots : (t : ℕ) → t < 8 → SlotRep text (tablesOf ws) p (settled (rowOf ws t)) (w .slots t)
-  pub places : firstInLine ws n ≡ map (λ v. v .slot) (w .line)
+-- What is lent represents a world of the program, where the first n places of the line are the world's, and `all` are those who wait: in
+-- the middle of waking they are more than the world's line.
+pub record RepAt (x : Lent) (p : Program) (w : World (service p)) (n : ℕ) (all : List (Waiter (service p))) : Type 0 where
+  pub fit : misfitOf x ≡ 0
+  pub fits : Fits (x .text) (tablesOf (x .words)) p
+  pub fields : w .fields ≡ x .values
+  pub slots : (t : ℕ) → t < 8 → SlotRep (x .text) (tablesOf (x .words)) p (settled (rowOf (x .words) t)) (w .slots t)
+  pub places : firstInLine (x .words) n ≡ map (λ v. v .slot) (w .line)
   pub below : (v : Waiter (service p)) → List·Memᴰ v all → v .slot < 8
-  pub waits : (v : Waiter (service p)) → List·Memᴰ v all → Waits text (tablesOf ws) p (rowOf ws (v .slot)) (v .message)
-  pub waiting : (t : ℕ) → t < 8 → phaseOf (rowOf ws t) ≡ 3 → (v : Waiter (service p)) × List·Memᴰ v all × (v .slot ≡ t)
+  pub waits : (v : Waiter (service p)) → List·Memᴰ v all → Waits (x .text) (tablesOf (x .words)) p (rowOf (x .words) (v .slot)) (v .message)
+  pub waiting : (t : ℕ) → t < 8 → phaseOf (rowOf (x .words) t) ≡ 3 → (v : Waiter (service p)) × List·Memᴰ v all × (v .slot ≡ t)
   pub once : Once (service p) all
 
-abbrev pub Rep : (text ws values : List ℕ) (p : Program) → World (service p) → Type 0
-Rep text ws values p w = RepAt text ws values p w (countIn ws) (w .line)
+abbrev pub Rep : Lent → (p : Program) → World (service p) → Type 0
+Rep x p w = RepAt x p w (countIn (x .words)) (w .line)
 
 -- The words of a fresh start: they fit, the tables fit the program, the eight rows are blank, and nobody waits.
-pub record Fresh (text ws values : List ℕ) (p : Program) : Type 0 where
-  pub fit : misfitOf text ws values ≡ 0
-  pub fits : Fits text (tablesOf ws) p
-  pub rows : (t : ℕ) → t < 8 → rowOf ws t ≡ blank
-  pub line : countIn ws ≡ 0
+pub record Fresh (x : Lent) (p : Program) : Type 0 where
+  pub fit : misfitOf x ≡ 0
+  pub fits : Fits (x .text) (tablesOf (x .words)) p
+  pub rows : (t : ℕ) → t < 8 → rowOf (x .words) t ≡ blank
+  pub line : countIn (x .words) ≡ 0

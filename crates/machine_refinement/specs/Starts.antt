@@ -16,7 +16,7 @@ use Rattle.model.specs.Vector.{Program}
 use Rattle.model.specs.Message.{Target, object, class, domain, Message, Run, visit}
 use Rattle.model.specs.Message as Model
 use Rattle.model.specs.Machine.{methodAt, to, find}
-use Rattle.theory.specs.NamedRuns.{classOn, NamedRun, begun-named}
+use Rattle.text_theory.specs.NamedRuns.{classOn, NamedRun, begun-named}
 use Rattle.catalog.specs.View.{nameOf, objectWord, classCount, objectCount, memberCount}
 use Rattle.catalog.specs.Bodies.{bodyIn, bodyAt}
 use Rattle.machine_words.specs.Turn.{targetThere, objectFrom}

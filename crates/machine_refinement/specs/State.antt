@@ -23,7 +23,7 @@ use Rattle.laws.specs.Basics.{at-or, put-same, put-other}
 use Rattle.laws.specs.Bits.{bit, bit-zero}
 use Rattle.machine_words.specs.Row.{noteBy, noteAt, blank}
 use Rattle.machine_words.specs.Line.{countIn, firstInLine, withPlace}
-use Rattle.machine_words.specs.Calls.{tablesOf, rowOf, phaseOf, withRow}
+use Rattle.machine_words.specs.Calls.{Lent, lending, withWords, tablesOf, rowOf, phaseOf, withRow}
 use Rattle.machine_words.specs.Rows.{row-length, with-same, with-other, with-tables, with-count, with-line, with-fit, place-row, place-tables, place-fit, fit-is}
 use Rattle.machine_refinement.specs.Rep.{Fits, NowRep, Clean, Holds, OpenRep, SlotRep, Waits, settled, RepAt, Rep}
 use Rattle.twophase.specs.Line.{Once}
@@ -49,35 +49,35 @@ ready-phase text tables p row t rep = go (t .running) (rep .now)
     go (some r) now = let two = now .0 in omega arith
 
 -- A slot's phase is 0 exactly if it is closed in the world.
-module _ (text ws values : List ℕ) (p : Program) (w : World (service p)) {n : ℕ} {all : List (Waiter (service p))} (rep : RepAt text ws values p w n all)
+module _ (lent : Lent) (p : Program) (w : World (service p)) {n : ℕ} {all : List (Waiter (service p))} (rep : RepAt lent p w n all)
     (t : ℕ) (h : t < 8) where
-  pub row-size : length (rowOf ws t) ≡ rowWords
-  row-size = row-length ws (fit-is text ws values (rep .fit) .long) t h
+  pub row-size : length (rowOf (lent .words) t) ≡ rowWords
+  row-size = row-length (lent .words) (fit-is lent (rep .fit) .long) t h
 
-  pub phase-closed : phaseOf (rowOf ws t) ≡ 0 → w .slots t ≡ closed
+  pub phase-closed : phaseOf (rowOf (lent .words) t) ≡ 0 → w .slots t ≡ closed
   phase-closed e =
       go (w .slots t)
-      (subst (λ (r : List ℕ). SlotRep text (tablesOf ws) p r (w .slots t)) (settled-ready (rowOf ws t) (λ x. omega arith)) (rep .slots t h))
+      (subst (λ (r : List ℕ). SlotRep (lent .text) (tablesOf (lent .words)) p r (w .slots t)) (settled-ready (rowOf (lent .words) t) (λ x. omega arith)) (rep .slots t h))
     where
-      go : (z : Slot (service p)) → SlotRep text (tablesOf ws) p (rowOf ws t) z → z ≡ closed
+      go : (z : Slot (service p)) → SlotRep (lent .text) (tablesOf (lent .words)) p (rowOf (lent .words) t) z → z ≡ closed
       go closed r = refl
-      go (opened x) r = absurd (open-phase text (tablesOf ws) p (rowOf ws t) x r e)
+      go (opened x) r = absurd (open-phase (lent .text) (tablesOf (lent .words)) p (rowOf (lent .words) t) x r e)
 
-  pub closed-phase : w .slots t ≡ closed → phaseOf (rowOf ws t) ≡ 0
-  closed-phase e = go (eqb (phaseOf (rowOf ws t)) 3) refl
+  pub closed-phase : w .slots t ≡ closed → phaseOf (rowOf (lent .words) t) ≡ 0
+  closed-phase e = go (eqb (phaseOf (rowOf (lent .words) t)) 3) refl
     where
-      blanked : settled (rowOf ws t) ≡ blank
-      blanked = subst (SlotRep text (tablesOf ws) p (settled (rowOf ws t))) e (rep .slots t h)
+      blanked : settled (rowOf (lent .words) t) ≡ blank
+      blanked = subst (SlotRep (lent .text) (tablesOf (lent .words)) p (settled (rowOf (lent .words) t))) e (rep .slots t h)
 
-      go : (b : Bool) → eqb (phaseOf (rowOf ws t)) 3 ≡ b → phaseOf (rowOf ws t) ≡ 0
+      go : (b : Bool) → eqb (phaseOf (rowOf (lent .words) t)) 3 ≡ b → phaseOf (rowOf (lent .words) t) ≡ 0
       go true f =
-          let three = eqb-true (phaseOf (rowOf ws t)) 3 f in
-          absurd (omega (arith, withdrawn-phase (rowOf ws t) row-size, ap phaseOf (sym (settled-waits (rowOf ws t) three) ∙ blanked), blank-word 0))
-      go false f = ap phaseOf (sym (settled-ready (rowOf ws t) (eqb-false (phaseOf (rowOf ws t)) 3 f)) ∙ blanked) ∙ blank-word 0
+          let three = eqb-true (phaseOf (rowOf (lent .words) t)) 3 f in
+          absurd (omega (arith, withdrawn-phase (rowOf (lent .words) t) row-size, ap phaseOf (sym (settled-waits (rowOf (lent .words) t) three) ∙ blanked), blank-word 0))
+      go false f = ap phaseOf (sym (settled-ready (rowOf (lent .words) t) (eqb-false (phaseOf (rowOf (lent .words) t)) 3 f)) ∙ blanked) ∙ blank-word 0
 
   -- A slot of another phase than 3 has no send in line.
-  pub not-waiting : phaseOf (rowOf ws t) ≢ 3 → (v : Waiter (service p)) → List·Memᴰ v all → v .slot ≢ t
-  not-waiting ne v i e = ne (ap (λ (u : ℕ). phaseOf (rowOf ws u)) (sym e) ∙ rep .waits v i .phase)
+  pub not-waiting : phaseOf (rowOf (lent .words) t) ≢ 3 → (v : Waiter (service p)) → List·Memᴰ v all → v .slot ≢ t
+  not-waiting ne v i e = ne (ap (λ (u : ℕ). phaseOf (rowOf (lent .words) u)) (sym e) ∙ rep .waits v i .phase)
 
 -- ---- the transaction that a send belongs to
 
@@ -123,11 +123,17 @@ slot-stands text tables p row (opened t) o = record { undo = o .undo; clean = o 
 
 -- A call that writes one slot's row and keeps the number of values: the words represent the world with that slot altered. Those who
 -- wait afterwards waited before, but for the slot's own send.
-module _ (text ws values : List ℕ) (p : Program) (w : World (service p)) {n : ℕ} {all : List (Waiter (service p))}
-    (rep : RepAt text ws values p (withFields (service p) w values) n all)
-    (s : ℕ) (h : s < 8) (row values′ : List ℕ) (size : length row ≡ rowWords) (count : length values′ ≡ length values) (z : Slot (service p)) where
+module _ (lent : Lent) (p : Program) (w : World (service p)) {n : ℕ} {all : List (Waiter (service p))}
+    (rep : RepAt lent p (withFields (service p) w (lent .values)) n all)
+    (s : ℕ) (h : s < 8) (row values′ : List ℕ) (size : length row ≡ rowWords) (count : length values′ ≡ length (lent .values)) (z : Slot (service p)) where
+  abbrev text : List ℕ
+  text = lent .text
+
+  abbrev ws : List ℕ
+  ws = lent .words
+
   long : stateWords ≤ length ws
-  long = fit-is text ws values (rep .fit) .long
+  long = fit-is lent (rep .fit) .long
 
   tables : tablesOf (withRow ws s row) ≡ tablesOf ws
   tables = with-tables ws long s h row size
@@ -141,10 +147,10 @@ module _ (text ws values : List ℕ) (p : Program) (w : World (service p)) {n : 
       → ((v : Waiter (service p)) → List·Memᴰ v all′ → ((v .slot ≡ s) × Waits text (tablesOf ws) p row (v .message)) ⊎ ((v .slot ≢ s) × List·Memᴰ v all))
       → ((v : Waiter (service p)) → List·Memᴰ v all → v .slot ≢ s → List·Memᴰ v all′)
       → (phaseOf row ≡ 3 → (v : Waiter (service p)) × List·Memᴰ v all′ × (v .slot ≡ s)) → Once (service p) all′
-      → RepAt text (withRow ws s row) values′ p (withSlot (service p) (withFields (service p) w values′) s z) n all′
+      → RepAt (lending text (withRow ws s row) values′) p (withSlot (service p) (withFields (service p) w values′) s z) n all′
   altered slot all′ from keeps own once =
       record {
-        fit = with-fit ws long s h row size text values values′ count ∙ rep .fit;
+        fit = with-fit ws long s h row size text (lent .values) values′ count ∙ rep .fit;
         fits = subst (λ (t : List ℕ). Fits text t p) (sym tables) (rep .fits);
         fields = refl;
         slots = at-or (λ (t : ℕ). t < 8 → SlotRep text (tablesOf (withRow ws s row)) p (settled (rowOf (withRow ws s row) t)) (put (w .slots) s z t)) s
@@ -183,62 +189,62 @@ module _ (text ws values : List ℕ) (p : Program) (w : World (service p)) {n : 
 
   -- The slot did not wait, and does not wait then.
   pub moved : phaseOf (rowOf ws s) ≢ 3 → phaseOf row ≢ 3 → SlotRep text (tablesOf ws) p row z
-      → RepAt text (withRow ws s row) values′ p (withSlot (service p) (withFields (service p) w values′) s z) n all
+      → RepAt (lending text (withRow ws s row) values′) p (withSlot (service p) (withFields (service p) w values′) s z) n all
   moved was is slot =
       altered (subst (λ (r : List ℕ). SlotRep text (tablesOf ws) p r z) (sym (settled-ready row is)) slot) all
-      (λ v i. inr (not-waiting text ws values p (withFields (service p) w values) rep s h was v i, i)) (λ v i ne. i) (λ e. absurd (is e)) (rep .once)
+      (λ v i. inr (not-waiting lent p (withFields (service p) w (lent .values)) rep s h was v i, i)) (λ v i ne. i) (λ e. absurd (is e)) (rep .once)
 
 -- So for the whole line.
-pub moved-rep : (text ws values : List ℕ) (p : Program) (w : World (service p)) → Rep text ws values p (withFields (service p) w values) → (s : ℕ) → s < 8
-    → (row values′ : List ℕ) → length row ≡ rowWords → length values′ ≡ length values → (z : Slot (service p)) → phaseOf (rowOf ws s) ≢ 3 → phaseOf row ≢ 3
-    → SlotRep text (tablesOf ws) p row z → Rep text (withRow ws s row) values′ p (withSlot (service p) (withFields (service p) w values′) s z)
-moved-rep text ws values p w rep s h row values′ size count z was is slot =
-    subst (λ (n : ℕ). RepAt text (withRow ws s row) values′ p (withSlot (service p) (withFields (service p) w values′) s z) n (w .line))
-    (sym (with-count ws (fit-is text ws values (rep .fit) .long) s h row size)) (moved text ws values p w rep s h row values′ size count z was is slot)
+pub moved-rep : (lent : Lent) (p : Program) (w : World (service p)) → Rep lent p (withFields (service p) w (lent .values)) → (s : ℕ) → s < 8
+    → (row values′ : List ℕ) → length row ≡ rowWords → length values′ ≡ length (lent .values) → (z : Slot (service p)) → phaseOf (rowOf (lent .words) s) ≢ 3 → phaseOf row ≢ 3
+    → SlotRep (lent .text) (tablesOf (lent .words)) p row z → Rep (lending (lent .text) (withRow (lent .words) s row) values′) p (withSlot (service p) (withFields (service p) w values′) s z)
+moved-rep lent p w rep s h row values′ size count z was is slot =
+    subst (λ (n : ℕ). RepAt (lending (lent .text) (withRow (lent .words) s row) values′) p (withSlot (service p) (withFields (service p) w values′) s z) n (w .line))
+    (sym (with-count (lent .words) (fit-is lent (rep .fit) .long) s h row size)) (moved lent p w rep s h row values′ size count z was is slot)
 
 -- ---- the line altered
 
 -- A word of the line is written, and the world has another line.
-module _ (text ws values : List ℕ) (p : Program) (w : World (service p)) {n : ℕ} {all : List (Waiter (service p))} (rep : RepAt text ws values p w n all)
+module _ (lent : Lent) (p : Program) (w : World (service p)) {n : ℕ} {all : List (Waiter (service p))} (rep : RepAt lent p w n all)
     (i v : ℕ) (h : lineAt ≤ i) where
-  tables′ : tablesOf (set ws i v) ≡ tablesOf ws
-  tables′ = place-tables ws i v h
+  tables′ : tablesOf (set (lent .words) i v) ≡ tablesOf (lent .words)
+  tables′ = place-tables (lent .words) i v h
 
-  rewritten : (line : List (Waiter (service p))) (k : ℕ) → firstInLine (set ws i v) k ≡ map (λ x. x .slot) line
-      → RepAt text (set ws i v) values p (record { fields = w .fields; slots = w .slots; line = line }) k all
+  rewritten : (line : List (Waiter (service p))) (k : ℕ) → firstInLine (set (lent .words) i v) k ≡ map (λ x. x .slot) line
+      → RepAt (withWords lent (set (lent .words) i v)) p (record { fields = w .fields; slots = w .slots; line = line }) k all
   rewritten line k places =
       record {
-        fit = place-fit ws i v h text values ∙ rep .fit;
-        fits = subst (λ (t : List ℕ). Fits text t p) (sym tables′) (rep .fits);
+        fit = place-fit (lent .words) i v h (lent .text) (lent .values) ∙ rep .fit;
+        fits = subst (λ (t : List ℕ). Fits (lent .text) t p) (sym tables′) (rep .fits);
         fields = rep .fields;
         slots = λ t l.
-            subst (λ (x : List ℕ). SlotRep text x p (settled (rowOf (set ws i v) t)) (w .slots t)) (sym tables′)
-            (subst (λ (r : List ℕ). SlotRep text (tablesOf ws) p (settled r) (w .slots t)) (sym (place-row ws i v h t l)) (rep .slots t l));
+            subst (λ (x : List ℕ). SlotRep (lent .text) x p (settled (rowOf (set (lent .words) i v) t)) (w .slots t)) (sym tables′)
+            (subst (λ (r : List ℕ). SlotRep (lent .text) (tablesOf (lent .words)) p (settled r) (w .slots t)) (sym (place-row (lent .words) i v h t l)) (rep .slots t l));
         places = places;
         below = rep .below;
         waits = λ u j.
-            subst (λ (x : List ℕ). Waits text x p (rowOf (set ws i v) (u .slot)) (u .message)) (sym tables′)
-            (subst (λ (r : List ℕ). Waits text (tablesOf ws) p r (u .message)) (sym (place-row ws i v h (u .slot) (rep .below u j))) (rep .waits u j));
-        waiting = λ t l e. rep .waiting t l (ap phaseOf (sym (place-row ws i v h t l)) ∙ e);
+            subst (λ (x : List ℕ). Waits (lent .text) x p (rowOf (set (lent .words) i v) (u .slot)) (u .message)) (sym tables′)
+            (subst (λ (r : List ℕ). Waits (lent .text) (tablesOf (lent .words)) p r (u .message)) (sym (place-row (lent .words) i v h (u .slot) (rep .below u j))) (rep .waits u j));
+        waiting = λ t l e. rep .waiting t l (ap phaseOf (sym (place-row (lent .words) i v h t l)) ∙ e);
         once = rep .once;
       }
 
 -- A waiter is put at the place after the line.
-pub placed : (text ws values : List ℕ) (p : Program) (w : World (service p)) {n : ℕ} {all : List (Waiter (service p))} → RepAt text ws values p w n all
-    → n < 8 → (v : Waiter (service p)) → RepAt text (withPlace ws n (v .slot)) values p (queued (service p) w v) (suc n) all
-placed text ws values p w {n} rep few v =
-    rewritten text ws values p w rep (firstInLineAt + n) (v .slot) (omega arith) (w .line ++ (v ∷ [])) (suc n)
-    (ap (take (suc n)) (drop-set-add firstInLineAt ws n (v .slot))
-    ∙ take-suc-set (drop firstInLineAt ws) n (v .slot) (omega (arith, length-drop firstInLineAt ws, fit-is text ws values (rep .fit) .long))
+pub placed : (lent : Lent) (p : Program) (w : World (service p)) {n : ℕ} {all : List (Waiter (service p))} → RepAt lent p w n all
+    → n < 8 → (v : Waiter (service p)) → RepAt (withWords lent (withPlace (lent .words) n (v .slot))) p (queued (service p) w v) (suc n) all
+placed lent p w {n} rep few v =
+    rewritten lent p w rep (firstInLineAt + n) (v .slot) (omega arith) (w .line ++ (v ∷ [])) (suc n)
+    (ap (take (suc n)) (drop-set-add firstInLineAt (lent .words) n (v .slot))
+    ∙ take-suc-set (drop firstInLineAt (lent .words)) n (v .slot) (omega (arith, length-drop firstInLineAt (lent .words), fit-is lent (rep .fit) .long))
     ∙ ap (λ (l : List ℕ). l ++ (v .slot ∷ [])) (rep .places) ∙ sym (map-append (λ x. x .slot) (w .line) (v ∷ [])))
 
 -- The number of those who wait is written.
-pub counted : (text ws values : List ℕ) (p : Program) (w : World (service p)) {n : ℕ} {all : List (Waiter (service p))} → RepAt text ws values p w n all
-    → n ≤ 8 → RepAt text (set ws lineAt n) values p w (countIn (set ws lineAt n)) all
+pub counted : (lent : Lent) (p : Program) (w : World (service p)) {n : ℕ} {all : List (Waiter (service p))} → RepAt lent p w n all
+    → n ≤ 8 → RepAt (withWords lent (set (lent .words) lineAt n)) p w (countIn (set (lent .words) lineAt n)) all
 unfolding countIn
-counted text ws values p w {n} {all} rep few =
-    let e : getD (set ws lineAt n) lineAt 0 ≡ n = getD-set-same ws lineAt n 0 (omega (arith, fit-is text ws values (rep .fit) .long)) in
-    let is : cond (ltb 8 (getD (set ws lineAt n) lineAt 0)) 8 (getD (set ws lineAt n) lineAt 0) ≡ n = rw (e, le-ltb 8 n few) in
-    subst (λ (k : ℕ). RepAt text (set ws lineAt n) values p w k all) (sym is)
-    (rewritten text ws values p w rep lineAt n (omega arith) (w .line) n
-    (ap (take n) (drop-set-lt firstInLineAt ws lineAt n (omega arith)) ∙ rep .places))
+counted lent p w {n} {all} rep few =
+    let e : getD (set (lent .words) lineAt n) lineAt 0 ≡ n = getD-set-same (lent .words) lineAt n 0 (omega (arith, fit-is lent (rep .fit) .long)) in
+    let is : cond (ltb 8 (getD (set (lent .words) lineAt n) lineAt 0)) 8 (getD (set (lent .words) lineAt n) lineAt 0) ≡ n = rw (e, le-ltb 8 n few) in
+    subst (λ (k : ℕ). RepAt (withWords lent (set (lent .words) lineAt n)) p w k all) (sym is)
+    (rewritten lent p w rep lineAt n (omega arith) (w .line) n
+    (ap (take n) (drop-set-lt firstInLineAt (lent .words) lineAt n (omega arith)) ∙ rep .places))

@@ -19,9 +19,9 @@ use Rattle.model.specs.Fault.{strange, strangeGuard}
 use Rattle.model.specs.Vector.{Program}
 use Rattle.model.specs.Message.{idle, store, storeAt, placeOf, look, Activation, Run, Outcome, ends, stops, onward, opened, withRest, replied, worth, called, holds, perform, guarded, limited, turn}
 use Rattle.model.specs.Message as Model
-use Rattle.theory.specs.Named.{NamedBody}
-use Rattle.theory.specs.Named as Named
-use Rattle.theory.specs.NamedRuns.{classOn, NamedRun, KnownAction, guard-known, statement-known}
+use Rattle.text_theory.specs.Named.{NamedBody}
+use Rattle.text_theory.specs.Named as Named
+use Rattle.text_theory.specs.NamedRuns.{classOn, NamedRun, KnownAction, guard-known, statement-known}
 use Rattle.catalog.specs.View.{partOf, statementWord, objectWord, classCount, statementCount, objectCount, memberCount, membersOf}
 use Rattle.machine_words.specs.Row.{Turn, misfit, stop, skip, assign, call, reply, act, carried}
 use Rattle.catalog.specs.Bodies.{bodyIn}

@@ -14,7 +14,7 @@ use Rattle.model.specs.Library.{Library}
 use Rattle.model.specs.Vector.{Program}
 use Rattle.model.specs.Message.{idle, look, Activation, Run, Outcome, ends, onward, plusReply, bodyEnds, limited, turn}
 use Rattle.model.specs.Message as Model
-use Rattle.theory.specs.NamedRuns.{NamedRun}
+use Rattle.text_theory.specs.NamedRuns.{NamedRun}
 use Rattle.catalog.specs.View.{objectCount, statementCount}
 use Rattle.machine_words.specs.Row.{Turn, misfit, stop, back, answer, act, top, carried}
 use Rattle.machine_words.specs.Turn.{objectFrom, nextTurn, lineTurn, endTurn, activationTurn, decidedWide, stepsMost, decided}

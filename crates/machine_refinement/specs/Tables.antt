@@ -20,7 +20,7 @@ use Rattle.model.specs.Fault.{strange}
 use Rattle.model.specs.Vector.{Program}
 use Rattle.model.specs.Message.{sizeOf, baseOf, placeOf, valueAt, look}
 use Rattle.model.specs.Message as Model
-use Rattle.theory.specs.Copies.{Copied, Resolves, asRecorded-resolves}
+use Rattle.text_theory.specs.Copies.{Copied, Resolves, asRecorded-resolves}
 use Rattle.catalog.specs.View.{nameOf, classWord, objectWord, classCount, objectCount, statementCount, memberCount, memberAt, membersOf, objectOf, libraryOf}
 use Rattle.laws.specs.Bits.{bit}
 use Rattle.catalog.specs.View as View

@@ -17,7 +17,7 @@ use Rattle.model.specs.Vector.{Program}
 use Rattle.model.specs.Message.{Target}
 use Rattle.model.specs.Message as Model
 use Rattle.model.specs.Lock.{Lock, onObject, onClass, domainOf, locksFor, sameLock}
-use Rattle.theory.specs.Accepted.{or-false}
+use Rattle.text_theory.specs.Accepted.{or-false}
 use Rattle.catalog.specs.View.{classCount, objectCount, memberCount}
 use Rattle.laws.specs.Bits.{bit, bit-or, bit-one}
 use Rattle.machine_words.specs.Row.{lockMarked, withBits}

@@ -15,7 +15,7 @@ use Rattle.model.specs.Vector.{Program}
 use Rattle.model.specs.Message.{Message, idle, Activation, opened, visit}
 use Rattle.model.specs.Message as Model
 use Rattle.catalog.specs.View.{nameOf, objectWord, objectCount}
-use Rattle.theory.specs.NamedRuns.{classOn}
+use Rattle.text_theory.specs.NamedRuns.{classOn}
 use Rattle.machine_words.specs.Row.{next, objectRow, goingTo}
 use Rattle.catalog.specs.Bodies.{bodyIn}
 use Rattle.machine_words.specs.Turn.{targetThere, nextOn, nextTurn}

@@ -22,7 +22,7 @@ use Rattle.machine_words.specs.Request.{Wanted, First, on, past, nowhere, first
 use Rattle.machine_words.specs.Row.{blank}
 use Rattle.machine_words.specs.Line.{waitingIn, wantedIn, withdrawn, slotAt, withPlace, Waking, keptAt, startedFrom, startedOrKept, isWaiting, wokenSlot, wokenFrom, countIn, firstInLine, woken}
 use Rattle.machine_words.specs.Line as Words
-use Rattle.machine_words.specs.Calls.{tablesOf, rowOf, phaseOf, withRow, wanted}
+use Rattle.machine_words.specs.Calls.{Lent, lending, withWords, tablesOf, rowOf, phaseOf, withRow, wanted}
 use Rattle.machine_words.specs.Spans.{drop-sets}
 use Rattle.machine_words.specs.Rows.{with-same, with-other, with-count, with-line, place-row, fit-is}
 use Rattle.machine_refinement.specs.Rep.{SlotRep, Waits, messageFor, RepAt, Rep}
@@ -39,13 +39,17 @@ first-is l j k x xs h e =
     let f : getD l j 0 ∷ take k (drop (suc j) l) ≡ x ∷ xs = sym (ap (take (suc k)) (drop-cons l j 0 h)) ∙ e in
     (ap (λ (y : List ℕ). getD y 0 0) f, ap (λ (y : List ℕ). drop 1 y) f)
 
-module _ (text values : List ℕ) (p : Program) where
+-- Waking alters the words alone.
+module _ (lent : Lent) (p : Program) where
+  abbrev text : List ℕ
+  text = lent .text
+
   abbrev Line : Type 0
   Line = List (Waiter (service p))
 
   -- ---- one slot of the line
 
-  module _ (ws : List ℕ) (w : World (service p)) (n : ℕ) (v : Waiter (service p)) (vs : Line) (rep : RepAt text ws values p w n (w .line ++ (v ∷ vs))) where
+  module _ (ws : List ℕ) (w : World (service p)) (n : ℕ) (v : Waiter (service p)) (vs : Line) (rep : RepAt (withWords lent ws) p w n (w .line ++ (v ∷ vs))) where
     abbrev tables : List ℕ
     tables = tablesOf ws
 
@@ -77,18 +81,18 @@ module _ (text values : List ℕ) (p : Program) where
     way-is : Words.obstacle text ws n s q ≡ obstacle (service p) w s (v .message)
     way-is =
         ap (Words.obstacle text ws n s) q-is
-        ∙ obstacle-is text ws values p w rep (λ u i. Memᴰ·append-left (v ∷ vs) i) (waits .class) (waits .place) (waits .argument) (waits .known) (waits .has)
+        ∙ obstacle-is (withWords lent ws) p w rep (λ u i. Memᴰ·append-left (v ∷ vs) i) (waits .class) (waits .place) (waits .argument) (waits .known) (waits .has)
         (waits .kind) (waits .number) (waits .target) (waits .aims) s
         ∙ ap (obstacle (service p) w s) (sym (waits .sends))
 
     -- It goes on waiting, behind those who do.
-    keeps : n < 8 → RepAt text (withPlace ws n s) values p (queued (service p) w v) (suc n) (queued (service p) w v .line ++ vs)
+    keeps : n < 8 → RepAt (withWords lent (withPlace ws n s)) p (queued (service p) w v) (suc n) (queued (service p) w v .line ++ vs)
     keeps few =
-        subst (RepAt text (withPlace ws n s) values p (queued (service p) w v) (suc n)) (sym (append-assoc (w .line) (v ∷ []) vs))
-        (placed text ws values p w rep few v)
+        subst (RepAt (withWords lent (withPlace ws n s)) p (queued (service p) w v) (suc n)) (sym (append-assoc (w .line) (v ∷ []) vs))
+        (placed (withWords lent ws) p w rep few v)
 
     size : length (rowOf ws s) ≡ rowWords
-    size = row-size text ws values p w rep s h
+    size = row-size (withWords lent ws) p w rep s h
 
     begun : Begun text tables p q (withdrawn (rowOf ws s)) (starting (service p) (standing (service p) (w .slots s)) (v .message))
     begun =
@@ -104,12 +108,12 @@ module _ (text values : List ℕ) (p : Program) where
     row′ = entered q (firstOf text tables q) (locked text tables q (withdrawn (rowOf ws s)))
 
     -- It starts, and waits no more.
-    begins-now : RepAt text (withRow ws s row′) values p (started (service p) w s (v .message)) n (w .line ++ vs)
+    begins-now : RepAt (withWords lent (withRow ws s row′)) p (started (service p) w s (v .message)) n (w .line ++ vs)
     begins-now =
         let two = begun .phase in
-        let same : withFields (service p) w values ≡ w = λ i. withFields (service p) w (sym (rep .fields) i) in
-        subst (λ (x : World (service p)). RepAt text (withRow ws s row′) values p (started (service p) x s (v .message)) n (w .line ++ vs)) same
-        (altered text ws values p w (subst (λ (x : World (service p)). RepAt text ws values p x n all) (sym same) rep) s h row′ values (begun .long) refl
+        let same : withFields (service p) w (lent .values) ≡ w = λ i. withFields (service p) w (sym (rep .fields) i) in
+        subst (λ (x : World (service p)). RepAt (withWords lent (withRow ws s row′)) p (started (service p) x s (v .message)) n (w .line ++ vs)) same
+        (altered (withWords lent ws) p w (subst (λ (x : World (service p)). RepAt (withWords lent ws) p x n all) (sym same) rep) s h row′ (lent .values) (begun .long) refl
         (opened (starting (service p) (standing (service p) (w .slots s)) (v .message)))
         (subst (λ (r : List ℕ). SlotRep text tables p r (opened (starting (service p) (standing (service p) (w .slots s)) (v .message))))
         (sym (settled-ready row′ (λ x. omega (arith, two, x)))) (begun .is-open)) (w .line ++ vs)
@@ -130,7 +134,7 @@ module _ (text values : List ℕ) (p : Program) where
 
   -- What waking leaves represents a world.
   abbrev Done : Waking → World (service p) → Type 0
-  Done x w = (x .waiting ≤ 8) × RepAt text (x .words) values p w (x .waiting) (w .line)
+  Done x w = (x .waiting ≤ 8) × RepAt (withWords lent (x .words)) p w (x .waiting) (w .line)
 
   -- A message that starts somewhere starts.
   started-there : (ws : List ℕ) (n t : ℕ) (q : Wanted) (f : First) → There f → startedOrKept text ws n t q f ≡ startedFrom text ws n t q f
@@ -158,14 +162,14 @@ module _ (text values : List ℕ) (p : Program) where
     left us = without (service p) e us
 
     module _ (ws : List ℕ) (w : World (service p)) (n i : ℕ) (u : Waiter (service p)) (us : Line) (still : Still ws i (u ∷ us)) (le : n ≤ i)
-        (again : (ws : List ℕ) (w : World (service p)) (n : ℕ) → RepAt text ws values p w n (w .line ++ left us) → Still ws (suc i) us → n ≤ suc i
+        (again : (ws : List ℕ) (w : World (service p)) (n : ℕ) → RepAt (withWords lent ws) p w n (w .line ++ left us) → Still ws (suc i) us → n ≤ suc i
         → Done (wokenFrom text (record { waiting = n; words = ws }) (suc i) (length us)) (wake (service p) w (left us))) where
       -- Whether waking this slot leaves x, and the world w′ in the model.
       abbrev Goes : Waking → World (service p) → Type 0
       Goes x w′ = Done (wokenFrom text x (suc i) (length us)) (wake (service p) w′ (left us))
 
       -- A slot that does not wait leaves the line.
-      gone : RepAt text ws values p w n (w .line ++ left us) → stateWords ≤ length ws → u .slot ≡ e → Goes (wokenSlot text ws n (u .slot)) w
+      gone : RepAt (withWords lent ws) p w n (w .line ++ left us) → stateWords ≤ length ws → u .slot ≡ e → Goes (wokenSlot text ws n (u .slot)) w
       unfolding wokenSlot isWaiting
       gone rep long same =
           let quiet : eqb (phaseOf (rowOf ws (u .slot))) 3 ≡ false =
@@ -174,9 +178,9 @@ module _ (text values : List ℕ) (p : Program) where
           (again ws w n rep
           (record { quiet = still .quiet; rest = slot-is ws i u us still long .1; few = omega (arith, still .few) }) (omega arith))
 
-      module _ (rep : RepAt text ws values p w n (w .line ++ (u ∷ left us))) (other : u .slot ≢ e) where
+      module _ (rep : RepAt (withWords lent ws) p w n (w .line ++ (u ∷ left us))) (other : u .slot ≢ e) where
         long : stateWords ≤ length ws
-        long = fit-is text ws values (rep .fit) .long
+        long = fit-is (withWords lent ws) (rep .fit) .long
 
         rest : take (length us) (drop (firstInLineAt + suc i) ws) ≡ map (λ v. v .slot) us
         rest = slot-is ws i u us still long .1
@@ -220,22 +224,22 @@ module _ (text values : List ℕ) (p : Program) where
                 subst (λ (x : Waking). Goes x (started (service p) w (u .slot) (u .message)))
                 (sym (started-there ws n (u .slot) y (firstOf text (tablesOf ws) y) (begun ws w n u (left us) rep .there))) begins-here
 
-    pub wakes : (us : Line) (ws : List ℕ) (w : World (service p)) (n i : ℕ) → RepAt text ws values p w n (w .line ++ left us) → Still ws i us → n ≤ i
+    pub wakes : (us : Line) (ws : List ℕ) (w : World (service p)) (n i : ℕ) → RepAt (withWords lent ws) p w n (w .line ++ left us) → Still ws i us → n ≤ i
         → Done (wokenFrom text (record { waiting = n; words = ws }) i (length us)) (wake (service p) w (left us))
     unfolding wokenFrom keep
-    wakes [] ws w n i rep still le = (omega (arith, still .few), subst (RepAt text ws values p w n) (append-nil (w .line)) rep)
+    wakes [] ws w n i rep still le = (omega (arith, still .few), subst (RepAt (withWords lent ws) p w n) (append-nil (w .line)) rep)
     wakes (u ∷ us) ws w n i rep still le =
         subst (λ (t : ℕ). Done (wokenFrom text (wokenSlot text ws n t) (suc i) (length us)) (wake (service p) w (left (u ∷ us)))) (sym (slot-is ws i u us still long .0))
         (go (eqb (u .slot) e) refl (λ ws w n. wakes us ws w n (suc i)) rep)
       where
         long : stateWords ≤ length ws
-        long = fit-is text ws values (rep .fit) .long
+        long = fit-is (withWords lent ws) (rep .fit) .long
 
         Again : Type 0
-        Again = (ws : List ℕ) (w : World (service p)) (n : ℕ) → RepAt text ws values p w n (w .line ++ left us) → Still ws (suc i) us → n ≤ suc i
+        Again = (ws : List ℕ) (w : World (service p)) (n : ℕ) → RepAt (withWords lent ws) p w n (w .line ++ left us) → Still ws (suc i) us → n ≤ suc i
             → Done (wokenFrom text (record { waiting = n; words = ws }) (suc i) (length us)) (wake (service p) w (left us))
 
-        go : (b : Bool) → eqb (u .slot) e ≡ b → Again → RepAt text ws values p w n (w .line ++ cond (not b) (u ∷ left us) (left us))
+        go : (b : Bool) → eqb (u .slot) e ≡ b → Again → RepAt (withWords lent ws) p w n (w .line ++ cond (not b) (u ∷ left us) (left us))
             → Done (wokenFrom text (wokenSlot text ws n (u .slot)) (suc i) (length us)) (wake (service p) w (cond (not b) (u ∷ left us) (left us)))
         go true x again rep = gone ws w n i u us still le again rep long (eqb-true (u .slot) e x)
         go false x again rep = goes ws w n i u us still le again rep (eqb-false (u .slot) e x)
@@ -251,14 +255,18 @@ count-le ws = go (ltb 8 (getD ws lineAt 0)) refl
     go false e = omega (arith, ltb-false 8 (getD ws lineAt 0) e)
 
 -- As many wait as the line has.
-pub count-is : (text ws values : List ℕ) (p : Program) (w : World (service p)) → Rep text ws values p w → countIn ws ≡ length (w .line)
-count-is text ws values p w rep =
-    let long = fit-is text ws values (rep .fit) .long in
-    omega (arith, count-le ws, length-take (countIn ws) (drop firstInLineAt ws), length-drop firstInLineAt ws, ap length (rep .places), length-map (w .line) (λ v. v .slot))
+pub count-is : (lent : Lent) (p : Program) (w : World (service p)) → Rep lent p w → countIn (lent .words) ≡ length (w .line)
+count-is lent p w rep =
+    let long = fit-is lent (rep .fit) .long in
+    omega (arith, count-le (lent .words), length-take (countIn (lent .words)) (drop firstInLineAt (lent .words)), length-drop firstInLineAt (lent .words), ap length (rep .places), length-map (w .line) (λ v. v .slot))
 
 -- The transaction of slot e ends: its row is blank, its own waiting send is withdrawn, and the others are woken.
-module _ (text ws values : List ℕ) (p : Program) (w : World (service p)) (rep : Rep text ws values p (withFields (service p) w values))
-    (e : ℕ) (h : e < 8) (row values′ : List ℕ) (blanked : row ≡ blank) (count : length values′ ≡ length values) where
+module _ (lent : Lent) (p : Program) (w : World (service p)) (rep : Rep lent p (withFields (service p) w (lent .values)))
+    (e : ℕ) (h : e < 8) (row values′ : List ℕ) (blanked : row ≡ blank) (count : length values′ ≡ length (lent .values)) where
+  -- The words with its row blank, and the values after it.
+  abbrev after : Lent
+  after = lending (lent .text) (withRow (lent .words) e row) values′
+
   abbrev others : List (Waiter (service p))
   others = without (service p) e (w .line)
 
@@ -271,37 +279,37 @@ module _ (text ws values : List ℕ) (p : Program) (w : World (service p)) (rep 
   three-not : phaseOf row ≢ 3
   three-not x = omega (arith, zero-phase, x)
 
-  state-long : stateWords ≤ length ws
-  state-long = fit-is text ws values (rep .fit) .long
+  state-long : stateWords ≤ length (lent .words)
+  state-long = fit-is lent (rep .fit) .long
 
   in-line : (v : Waiter (service p)) → List·Memᴰ v others → (v .slot ≢ e) × List·Memᴰ v (w .line)
   in-line v i =
       let q = in-keep (λ u. not (eqb (u .slot) e)) (w .line) i in
       (λ x. true≢false (sym (q .1) ∙ ap not (eq-eqb (v .slot) e x)), q .0)
 
-  shut : RepAt text (withRow ws e row) values′ p (closedOver (service p) w e values′) 0 others
+  shut : RepAt after p (closedOver (service p) w e values′) 0 others
   shut =
       let r =
-      altered text ws values p w rep e h row values′ row-long count closed (settled-ready row three-not ∙ blanked) others
+      altered lent p w rep e h row values′ row-long count closed (settled-ready row three-not ∙ blanked) others
       (λ v i. inr (in-line v i))
       (λ v i ne. keep-in (λ u. not (eqb (u .slot) e)) (w .line) i (ap not (ne-eqb (v .slot) e ne)))
       (λ x. absurd (three-not x))
       (once-sub (service p) (sub-keep (λ u. not (eqb (u .slot) e)) (w .line)) (rep .once)) in
       record { fit = r .fit; fits = r .fits; fields = r .fields; slots = r .slots; places = refl; below = r .below; waits = r .waits; waiting = r .waiting; once = r .once }
 
-  same-count : countIn (withRow ws e row) ≡ length (w .line)
-  same-count = with-count ws state-long e h row row-long ∙ count-is text ws values p (withFields (service p) w values) rep
+  same-count : countIn (after .words) ≡ length (w .line)
+  same-count = with-count (lent .words) state-long e h row row-long ∙ count-is lent p (withFields (service p) w (lent .values)) rep
 
-  pub ended-rep : Rep text (woken text (withRow ws e row)) values′ p (ended (service p) w e values′)
+  pub ended-rep : Rep (withWords after (woken (after .text) (after .words))) p (ended (service p) w e values′)
   unfolding woken
   ended-rep =
-      subst (λ (k : ℕ). let x = wokenFrom text (record { waiting = 0; words = withRow ws e row }) 0 k in
-      Rep text (set (x .words) lineAt (x .waiting)) values′ p (ended (service p) w e values′)) (sym same-count)
-      (let done = wakes text values′ p e h (w .line) (withRow ws e row) (closedOver (service p) w e values′) 0 0 shut
+      subst (λ (k : ℕ). let x = wokenFrom (after .text) (record { waiting = 0; words = after .words }) 0 k in
+      Rep (withWords after (set (x .words) lineAt (x .waiting))) p (ended (service p) w e values′)) (sym same-count)
+      (let done = wakes after p e h (w .line) (after .words) (closedOver (service p) w e values′) 0 0 shut
       (record {
-        quiet = λ x. three-not (ap phaseOf (sym (with-same ws state-long e h row row-long)) ∙ x);
-        rest = ap (λ (k : ℕ). firstInLine (withRow ws e row) k) (sym (count-is text ws values p (withFields (service p) w values) rep))
-            ∙ with-line ws state-long e h row row-long (countIn ws) ∙ rep .places;
-        few = omega (arith, count-le ws, count-is text ws values p (withFields (service p) w values) rep);
+        quiet = λ x. three-not (ap phaseOf (sym (with-same (lent .words) state-long e h row row-long)) ∙ x);
+        rest = ap (firstInLine (after .words)) (sym (count-is lent p (withFields (service p) w (lent .values)) rep))
+            ∙ with-line (lent .words) state-long e h row row-long (countIn (lent .words)) ∙ rep .places;
+        few = omega (arith, count-le (lent .words), count-is lent p (withFields (service p) w (lent .values)) rep);
       }) (omega arith) in
-      counted text _ values′ p _ (done .1) (done .0))
+      counted (withWords after _) p _ (done .1) (done .0))

@@ -21,10 +21,10 @@ use Rattle.model.specs.Message.{sizeOf, baseOf}
 use Rattle.model.specs.Message as Model
 use Rattle.laws.specs.Basics.{All}
 use Rattle.laws.specs.Lists.{upto-at, map-at}
-use Rattle.theory.specs.Accepted.{Within, unique-place, Good, all-below, class-good, Sound, Known, Placing, library-sound, library-known, library-placing, Inside, library-within}
-use Rattle.theory.specs.Copies.{Copied, library-copied}
-use Rattle.theory.specs.Named.{Names}
-use Rattle.theory.specs.NamedLines.{library-names}
+use Rattle.text_theory.specs.Accepted.{Within, unique-place, Good, all-below, class-good, Sound, Known, Placing, library-sound, library-known, library-placing, Inside, library-within}
+use Rattle.text_theory.specs.Copies.{Copied, library-copied}
+use Rattle.text_theory.specs.Named.{Names}
+use Rattle.text_theory.specs.NamedLines.{library-names}
 use Rattle.catalog.specs.View.{partOf, classWord, objectWord, statementWord, classCount, objectCount, statementCount, memberCount, membersOf, classOf, placedOf, objectOf, libraryOf}
 use Rattle.laws.specs.Bits.{bit, bit-mask}
 use Rattle.laws.specs.Upto.{length-upto, getD-upto}

@@ -13,7 +13,7 @@ use Rattle.catalog.specs.View.{objectCount, libraryOf}
 use Rattle.image.specs.Sizes.{valueCount, values-le}
 use Rattle.machine_words.specs.Row.{blank}
 use Rattle.machine_words.specs.Line.{countIn}
-use Rattle.machine_words.specs.Calls.{mark, tablesOf, rowOf, misfitOf}
+use Rattle.machine_words.specs.Calls.{lending, mark, tablesOf, rowOf, misfitOf}
 use Rattle.machine_refinement.specs.Rep.{Fits, Fresh}
 use Rattle.machine_start.specs.Started.{Started}
 
@@ -96,7 +96,7 @@ module _ (tables rest : List ℕ) (size : length tables ≡ tableWords) where
       ∙ drop-at (replicate slotsWords 0) rest slotsWords (length-replicate {A = ℕ} slotsWords 0)
 
 module _ (text ws tables values rest : List ℕ) (s : Started text ws tables) (e : length values ≡ valueCount ws) where
-  lent-fits : misfitOf text (installed tables rest) values ≡ 0
+  lent-fits : misfitOf (lending text (installed tables rest) values) ≡ 0
   unfolding misfitOf
   lent-fits =
       let few : length values ≤ valuesMost = omega (arith, values-le ws (objectCount ws)) in
@@ -109,7 +109,7 @@ module _ (text ws tables values rest : List ℕ) (s : Started text ws tables) (e
         le-leb (length values) valuesMost few,
       )
 
-  pub fresh-start : Fresh text (installed tables rest) values (program (libraryOf text ws))
+  pub fresh-start : Fresh (lending text (installed tables rest) values) (program (libraryOf text ws))
   fresh-start = record {
     fit = lent-fits;
     fits = subst (λ (l : List ℕ). Fits text l (program (libraryOf text ws))) (sym (tables-there tables rest (s .size))) (s .fits);

@@ -9,9 +9,6 @@ ghost use Rattle.catalog.specs.View.{classCount, objectCount};
 ghost use Rattle.machine_start.specs.Worked.{belongs, domainMask, withDomains, firstValue, withPlaces, withHeader};
 ghost use Rattle.machine_start.specs.Started.{Fill};
 
-// The mark that a start leaves.
-const MARK: u32 = 1128352845;
-
 // Whether the other class is in the domain of the class: it is the class, or has it among its ancestors.
 fn belongs(tables: &[u32], class: u32, other: u32) -> bool
     ensures { λ r. ⌜ r ≡ belongs (now (tables .entry)) class other ⌝ }
@@ -72,7 +69,7 @@ fn put_header(tables: &mut [u32], values: u32, size: usize)
 {
     memory::put(tables, layout::VALUE_COUNT_AT, values);
     memory::put(tables, layout::TEXT_LENGTH_AT, (size % 65536) as u32);
-    memory::put(tables, layout::START_MARK_AT, MARK);
+    memory::put(tables, layout::START_MARK_AT, layout::START_MARK);
 }
 
 // Fills the tables of an accepted text with what a start works out.

@@ -1,5 +1,7 @@
 // The undo notes of a slot's row: for each value a mark where it was changed, another where it was set, and the word of its note. That
 // is the sum that was added to it so far or, once it was set, the value that undoing gives.
+pub mod release;
+
 use machine_words::Change;
 ghost use Prim.Native.Nat.{_+_, _*_, _/_, _^_, _≤_, _<_};
 ghost use mathlib.Core.Path.{_≡_};
@@ -30,7 +32,7 @@ fn restored(row: &[u32], place: usize, value: u32) -> u32
 }
 
 // Undoes every change: puts back the values that were set, and takes back what was added to the others.
-pub fn put_back(row: &[u32], values: &mut [u32])
+fn put_back(row: &[u32], values: &mut [u32])
     requires { ⌜ length (now row) ≡ rowWords ⌝ }
     ensures { λ _. ⌜ now (values .exit) ≡ putBack (noteAt (now (row .entry))) (now (values .entry)) ⌝ }
 {
@@ -122,7 +124,7 @@ fn unmarked(row: &[u32], word: usize) -> bool
 }
 
 // Clears every note that was made. Four words without marks are passed over together.
-pub fn clear_notes(row: &mut [u32])
+fn clear_notes(row: &mut [u32])
     requires { ⌜ length (now row) ≡ rowWords ⌝ }
     ensures { λ _. ⌜ now (row .exit) ≡ unnoted (now (row .entry)) ⌝ }
 {

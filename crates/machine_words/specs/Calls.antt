@@ -1,12 +1,13 @@
--- The four calls over the lent text, values and words. The words are laid out as in crates/layout/specs/Layout.antt; those past the
+-- The four calls over the lent text, words and values. The words are laid out as in crates/layout/specs/Layout.antt; those past the
 -- state are not the machine's.
 use Prim.Native.Nat.{ℕ, suc, _+_, _%_}
+use mathlib.Core.Path.{_≡_}
 use mathlib.Core.Bool.{Bool, true, false, not, cond, _&&_}
 use mathlib.Core.Option.{Option, none, some}
 use mathlib.Core.List.{List}
 use lib.ListN.{length, getD, set}
 use lib.Dec.{eqb, leb, ltb}
-use Rattle.layout.specs.Layout.{valuesMost, valueCountAt, textLengthAt, startMarkAt, methodNamesAt, objectClassAt, lineAt, stateWords}
+use Rattle.layout.specs.Layout.{valuesMost, valueCountAt, textLengthAt, startMarkAt, methodNamesAt, objectClassAt, lineAt, stateWords, startMark, originUnit, closedPhase, idlePhase, runningPhase, waitingPhase, methodKind, objectKind, classKind, domainKind}
 use Rattle.model.specs.Undo.{putBack}
 use Rattle.model.specs.Service.{Call, send, step, commit, abort, Answer, done, going, answer, refuse, held, stopped}
 use Rattle.model.specs.Machine.{object, class, domain, Request, to}
@@ -19,90 +20,113 @@ use Rattle.machine_words.specs.Line.{waitingRow, withdrawn, countIn, wit
 
 -- The mark that a start leaves.
 abbrev pub mark : ℕ
-mark = 1128352845
+mark = startMark
 
--- What a call answers and leaves.
-pub record After : Type 0 where
-  pub answered : Answer
+-- What is lent to a call: the text, the state's words and the values.
+pub record Lent : Type 0 where
+  pub text : List ℕ
   pub words : List ℕ
   pub values : List ℕ
 
-abbrev pub refused : List ℕ → List ℕ → ℕ → After
-refused ws values n = record { answered = refuse n; words = ws; values = values }
+abbrev pub lending : List ℕ → List ℕ → List ℕ → Lent
+lending text ws values = record { text = text; words = ws; values = values }
+
+-- What is lent is the same where each of the lists is.
+pub lending-same : {text text′ ws ws′ values values′ : List ℕ} → text ≡ text′ → ws ≡ ws′ → values ≡ values′ → lending text ws values ≡ lending text′ ws′ values′
+lending-same e f g = λ i. lending (e i) (f i) (g i)
+
+-- The same with other words.
+abbrev pub withWords : Lent → List ℕ → Lent
+withWords x ws = lending (x .text) ws (x .values)
+
+-- What a call answers, and what it leaves of what was lent.
+pub record After : Type 0 where
+  pub answered : Answer
+  pub lent : Lent
+
+abbrev pub refused : Lent → ℕ → After
+refused x n = record { answered = refuse n; lent = x }
 
 -- ---- whether what is lent fits
 
 -- Whether the words are those of a start on a text of this length and on as many values.
-abbrev pub isStarted : List ℕ → List ℕ → List ℕ → Bool
-isStarted text ws values =
-    eqb (getD ws startMarkAt 0) mark && eqb (getD ws textLengthAt 0) (length text) && eqb (getD ws valueCountAt 0) (length values) && leb (length values) valuesMost
+abbrev pub isStarted : Lent → Bool
+isStarted x =
+    eqb (getD (x .words) startMarkAt 0) mark && eqb (getD (x .words) textLengthAt 0) (length (x .text)) && eqb (getD (x .words) valueCountAt 0) (length (x .values))
+    && leb (length (x .values)) valuesMost
 
 -- 21 for a short state, else 24; 0 where it fits.
-unfoldable pub misfitOf : List ℕ → List ℕ → List ℕ → ℕ
-misfitOf text ws values = cond (ltb (length ws) stateWords) 21 (cond (isStarted text ws values) 0 24)
+unfoldable pub misfitOf : Lent → ℕ
+misfitOf x = cond (ltb (length (x .words)) stateWords) 21 (cond (isStarted x) 0 24)
 
 -- ---- send
 
 abbrev pub wanted : List ℕ → ℕ → ℕ → ℕ → ℕ → ℕ → Wanted
 wanted tables kind n c k a =
-    record { kind = kind; number = n; class = c; place = k; name = classWord tables c (methodNamesAt + k) % 1048576; argument = a }
+    record { kind = kind; number = n; class = c; place = k; name = classWord tables c (methodNamesAt + k) % originUnit; argument = a }
 
 -- What a granted send leaves: its slot is open, has its locks, and its message is at its start.
-abbrev pub startedAt : List ℕ → List ℕ → List ℕ → ℕ → Wanted → First → After
-startedAt text ws values s q f =
-    record { answered = done; words = withRow ws s (entered q f (locked text (tablesOf ws) q (rowOf ws s))); values = values }
+abbrev pub startedAt : Lent → ℕ → Wanted → First → After
+startedAt x s q f =
+    let ws = x .words in
+    record { answered = done; lent = withWords x (withRow ws s (entered q f (locked (x .text) (tablesOf ws) q (rowOf ws s)))) }
 
 -- A message that starts nowhere is refused with 24.
-abbrev pub startedOr : List ℕ → List ℕ → List ℕ → ℕ → Wanted → First → After
-startedOr text ws values s q (on o first end) = startedAt text ws values s q (on o first end)
-startedOr text ws values s q (past o) = startedAt text ws values s q (past o)
-startedOr text ws values s q nowhere = refused ws values 24
+abbrev pub startedOr : Lent → ℕ → Wanted → First → After
+startedOr x s q (on o first end) = startedAt x s q (on o first end)
+startedOr x s q (past o) = startedAt x s q (past o)
+startedOr x s q nowhere = refused x 24
 
 -- A send that joins the line, the last there; 24 where the line has no place for it, 42 where it would close a circle of waits.
-abbrev pub joinedAt : List ℕ → List ℕ → List ℕ → ℕ → Wanted → ℕ → After
-joinedAt text ws values s q t =
+abbrev pub joinedAt : Lent → ℕ → Wanted → ℕ → After
+joinedAt x s q t =
+    let ws = x .words in
     record {
       answered = held t;
-      words = set (withPlace (withRow ws s (waitingRow text (tablesOf ws) q (rowOf ws s))) (countIn ws) s) lineAt (suc (countIn ws));
-      values = values;
+      lent = withWords x (set (withPlace (withRow ws s (waitingRow (x .text) (tablesOf ws) q (rowOf ws s))) (countIn ws) s) lineAt (suc (countIn ws)));
     }
 
-abbrev pub joinedOr : List ℕ → List ℕ → List ℕ → ℕ → Wanted → ℕ → After
-joinedOr text ws values s q t =
-    cond (leb 8 (countIn ws)) (refused ws values 24)
-    (cond (closesCircle text ws s q) (refused ws values 42) (joinedAt text ws values s q t))
+abbrev pub joinedOr : Lent → ℕ → Wanted → ℕ → After
+joinedOr x s q t =
+    cond (leb 8 (countIn (x .words))) (refused x 24)
+    (cond (closesCircle (x .text) (x .words) s q) (refused x 42) (joinedAt x s q t))
+
+-- Where a send's message starts.
+abbrev pub firstIn : Lent → Wanted → First
+firstIn x q = firstOf (x .text) (tablesOf (x .words)) q
 
 -- A send that needs a new lock, with the lowest slot in its way, if any.
-abbrev pub arrivedOr : List ℕ → List ℕ → List ℕ → ℕ → Wanted → Option ℕ → After
-arrivedOr text ws values s q (some t) = joinedOr text ws values s q t
-arrivedOr text ws values s q none = startedOr text ws values s q (firstOf text (tablesOf ws) q)
+abbrev pub arrivedOr : Lent → ℕ → Wanted → Option ℕ → After
+arrivedOr x s q (some t) = joinedOr x s q t
+arrivedOr x s q none = startedOr x s q (firstIn x q)
 
 -- A send whose locks its slot holds starts, whoever is in line.
-abbrev pub grantedOr : List ℕ → List ℕ → List ℕ → ℕ → Wanted → Bool → After
-grantedOr text ws values s q true = startedOr text ws values s q (firstOf text (tablesOf ws) q)
-grantedOr text ws values s q false = arrivedOr text ws values s q (obstacle text ws (countIn ws) s q)
+abbrev pub grantedOr : Lent → ℕ → Wanted → Bool → After
+grantedOr x s q true = startedOr x s q (firstIn x q)
+grantedOr x s q false = arrivedOr x s q (obstacle (x .text) (x .words) (countIn (x .words)) s q)
 
-unfoldable pub granted : List ℕ → List ℕ → List ℕ → ℕ → Wanted → After
+unfoldable pub granted : Lent → ℕ → Wanted → After
 unfolding ownsLocks obstacle countIn closesCircle rowOf waitingRow firstOf entered locked
-granted text ws values s q = grantedOr text ws values s q (ownsLocks text (tablesOf ws) q (rowOf ws s))
+granted x s q = grantedOr x s q (ownsLocks (x .text) (tablesOf (x .words)) q (rowOf (x .words) s))
 
 -- A send to an existing target of class c: 24 where there is no such class, 36 where it has no such method, and 24 where some
 -- class of the domain lacks the method.
-unfoldable pub sentTo : List ℕ → List ℕ → List ℕ → ℕ → ℕ → ℕ → ℕ → ℕ → ℕ → After
+unfoldable pub sentTo : Lent → ℕ → ℕ → ℕ → ℕ → ℕ → ℕ → After
 unfolding memberCount classWord lacking granted
-sentTo text ws values s kind n c k a =
-    let tables = tablesOf ws in
+sentTo x s kind n c k a =
+    let tables = tablesOf (x .words) in
     let q = wanted tables kind n c k a in
-    cond (leb (classCount tables) c) (refused ws values 24)
-    (cond (leb (memberCount tables c 1) k) (refused ws values 36)
-    (cond (lacking text tables q) (refused ws values 24)
-    (granted text ws values s q)))
+    cond (leb (classCount tables) c) (refused x 24)
+    (cond (leb (memberCount tables c methodKind) k) (refused x 36)
+    (cond (lacking (x .text) tables q) (refused x 24)
+    (granted x s q)))
 
-abbrev pub sentBy : List ℕ → List ℕ → List ℕ → ℕ → Request → After
-sentBy text ws values s (to (object o) k a) =
-    cond (ltb o (objectCount (tablesOf ws))) (sentTo text ws values s 0 o (objectWord (tablesOf ws) o objectClassAt) k a) (refused ws values 36)
-sentBy text ws values s (to (class c) k a) = cond (ltb c (classCount (tablesOf ws))) (sentTo text ws values s 1 c c k a) (refused ws values 36)
-sentBy text ws values s (to (domain c) k a) = cond (ltb c (classCount (tablesOf ws))) (sentTo text ws values s 2 c c k a) (refused ws values 36)
+abbrev pub sentBy : Lent → ℕ → Request → After
+sentBy x s (to (object o) k a) =
+    let tables = tablesOf (x .words) in
+    cond (ltb o (objectCount tables)) (sentTo x s objectKind o (objectWord tables o objectClassAt) k a) (refused x 36)
+sentBy x s (to (class c) k a) = cond (ltb c (classCount (tablesOf (x .words)))) (sentTo x s classKind c c k a) (refused x 36)
+sentBy x s (to (domain c) k a) = cond (ltb c (classCount (tablesOf (x .words)))) (sentTo x s domainKind c c k a) (refused x 36)
 
 -- ---- step
 
@@ -115,8 +139,12 @@ wokenBy (refuse n) text ws = ws
 wokenBy (held t) text ws = ws
 wokenBy stopped text ws = woken text ws
 
-abbrev pub laid : List ℕ → List ℕ → ℕ → Left → After
-laid text ws s x = record { answered = x .answered; words = wokenBy (x .answered) text (withRow ws s (x .row)); values = x .values }
+abbrev pub laid : Lent → ℕ → Left → After
+laid x s l =
+    record {
+      answered = l .answered;
+      lent = lending (x .text) (wokenBy (l .answered) (x .text) (withRow (x .words) s (l .row))) (l .values);
+    }
 
 -- ---- the calls
 
@@ -124,33 +152,36 @@ laid text ws s x = record { answered = x .answered; words = wokenBy (x .answered
 abbrev pub endedAt : List ℕ → List ℕ → ℕ → List ℕ → List ℕ
 endedAt text ws s row = woken text (withRow ws s (freed row))
 
-abbrev pub undoneAt : List ℕ → List ℕ → List ℕ → ℕ → List ℕ → After
-undoneAt text ws values s row = record { answered = done; words = endedAt text ws s row; values = putBack (noteAt row) values }
+abbrev pub undoneAt : Lent → ℕ → List ℕ → After
+undoneAt x s row =
+    record { answered = done; lent = lending (x .text) (endedAt (x .text) (x .words) s row) (putBack (noteAt row) (x .values)) }
 
 -- A call on a slot below 8, by its phase: closed, open, with a message running, or waiting.
-abbrev pub onClosed : List ℕ → List ℕ → List ℕ → Call Request → After
-onClosed text ws values (send s q) = sentBy text ws values s q
-onClosed text ws values (step s) = refused ws values 32
-onClosed text ws values (commit s) = refused ws values 32
-onClosed text ws values (abort s) = refused ws values 32
+abbrev pub onClosed : Lent → Call Request → After
+onClosed x (send s q) = sentBy x s q
+onClosed x (step s) = refused x 32
+onClosed x (commit s) = refused x 32
+onClosed x (abort s) = refused x 32
 
-abbrev pub onIdle : List ℕ → List ℕ → List ℕ → Call Request → After
-onIdle text ws values (send s q) = sentBy text ws values s q
-onIdle text ws values (step s) = refused ws values 35
-onIdle text ws values (commit s) = record { answered = done; words = endedAt text ws s (rowOf ws s); values = values }
-onIdle text ws values (abort s) = undoneAt text ws values s (rowOf ws s)
+abbrev pub onIdle : Lent → Call Request → After
+onIdle x (send s q) = sentBy x s q
+onIdle x (step s) = refused x 35
+onIdle x (commit s) = record { answered = done; lent = withWords x (endedAt (x .text) (x .words) s (rowOf (x .words) s)) }
+onIdle x (abort s) = undoneAt x s (rowOf (x .words) s)
 
-abbrev pub onRunning : List ℕ → List ℕ → List ℕ → Call Request → After
-onRunning text ws values (send s q) = refused ws values 34
-onRunning text ws values (step s) = laid text ws s (carried (rowOf ws s) values (decided text (tablesOf ws) (rowOf ws s) values))
-onRunning text ws values (commit s) = refused ws values 34
-onRunning text ws values (abort s) = undoneAt text ws values s (rowOf ws s)
+abbrev pub onRunning : Lent → Call Request → After
+onRunning x (send s q) = refused x 34
+onRunning x (step s) =
+    let row = rowOf (x .words) s in
+    laid x s (carried row (x .values) (decided (x .text) (tablesOf (x .words)) row (x .values)))
+onRunning x (commit s) = refused x 34
+onRunning x (abort s) = undoneAt x s (rowOf (x .words) s)
 
-abbrev pub onWaiting : List ℕ → List ℕ → List ℕ → Call Request → After
-onWaiting text ws values (send s q) = refused ws values 37
-onWaiting text ws values (step s) = refused ws values 37
-onWaiting text ws values (commit s) = refused ws values 37
-onWaiting text ws values (abort s) = undoneAt text ws values s (withdrawn (rowOf ws s))
+abbrev pub onWaiting : Lent → Call Request → After
+onWaiting x (send s q) = refused x 37
+onWaiting x (step s) = refused x 37
+onWaiting x (commit s) = refused x 37
+onWaiting x (abort s) = undoneAt x s (withdrawn (rowOf (x .words) s))
 
 abbrev pub slotIn : Call Request → ℕ
 slotIn (send s q) = s
@@ -159,18 +190,18 @@ slotIn (commit s) = s
 slotIn (abort s) = s
 
 -- Any other phase is refused with 24.
-abbrev pub byPhase : List ℕ → List ℕ → List ℕ → Call Request → ℕ → After
-byPhase text ws values c phase =
-    cond (eqb phase 0) (onClosed text ws values c)
-    (cond (eqb phase 1) (onIdle text ws values c)
-    (cond (eqb phase 2) (onRunning text ws values c)
-    (cond (eqb phase 3) (onWaiting text ws values c) (refused ws values 24))))
+abbrev pub byPhase : Lent → Call Request → ℕ → After
+byPhase x c phase =
+    cond (eqb phase closedPhase) (onClosed x c)
+    (cond (eqb phase idlePhase) (onIdle x c)
+    (cond (eqb phase runningPhase) (onRunning x c)
+    (cond (eqb phase waitingPhase) (onWaiting x c) (refused x 24))))
 
 -- One call on what is lent, whether that fits or not.
-unfoldable pub called : List ℕ → List ℕ → List ℕ → Call Request → After
+unfoldable pub called : Lent → Call Request → After
 unfolding misfitOf rowOf sentTo carried decided putBack noteAt freed withdrawn woken
-called text ws values c =
-    let misfit = misfitOf text ws values in
-    cond (not (eqb misfit 0)) (refused ws values misfit)
-    (cond (leb 8 (slotIn c)) (refused ws values 31)
-    (byPhase text ws values c (phaseOf (rowOf ws (slotIn c)))))
+called x c =
+    let misfit = misfitOf x in
+    cond (not (eqb misfit 0)) (refused x misfit)
+    (cond (leb 8 (slotIn c)) (refused x 31)
+    (byPhase x c (phaseOf (rowOf (x .words) (slotIn c)))))

@@ -7,7 +7,7 @@ use mathlib.Core.List.{List}
 use lib.ListN.{getD, set, take, drop, replicate}
 use lib.Seq.{sets}
 use lib.Dec.{eqb, leb, ltb}
-use Rattle.layout.specs.Layout.{tableWords, phaseAt, kindAt, numberAt, nameAt, argumentAt, classAt, placeAt, waitingAt, waitingWords, rowWords, lineAt, firstInLineAt}
+use Rattle.layout.specs.Layout.{tableWords, phaseAt, kindAt, numberAt, nameAt, argumentAt, classAt, placeAt, waitingAt, waitingWords, rowWords, lineAt, firstInLineAt, closedPhase, idlePhase, waitingPhase}
 use Rattle.model.specs.Base.{any, least, leads}
 use Rattle.machine_words.specs.Request.{Wanted, rowMeets, locked, First, on, past, nowhere, firstOf, namedRow, entered}
 
@@ -23,7 +23,7 @@ rowOf ws s = take rowWords (drop (rowStart s) ws)
 abbrev pub withRow : List ℕ → ℕ → List ℕ → List ℕ
 withRow ws s row = sets ws (rowStart s) row
 
--- A row's phase: 0 closed, 1 open, 2 with a message running, 3 waiting.
+-- A row's phase.
 abbrev pub phaseOf : List ℕ → ℕ
 phaseOf row = getD row phaseAt 0
 
@@ -50,14 +50,14 @@ unfoldable pub requested : Wanted → List ℕ → List ℕ
 unfolding namedRow
 requested q waiting = set (set (namedRow q waiting) classAt (q .class)) placeAt (q .place)
 
--- The row with a send that waits: the send's words with its locks, and phase 3. The locks are not the slot's yet.
+-- The row with a send that waits: the send's words with its locks, and its phase. The locks are not the slot's yet.
 unfoldable pub waitingRow : List ℕ → List ℕ → Wanted → List ℕ → List ℕ
 unfolding locked requested
-waitingRow text tables q row = set (sets row waitingAt (locked text tables q (requested q (replicate waitingWords 0)))) phaseAt 3
+waitingRow text tables q row = set (sets row waitingAt (locked text tables q (requested q (replicate waitingWords 0)))) phaseAt waitingPhase
 
 -- The row with its waiting send withdrawn: the slot is open, and no message runs.
 unfoldable pub withdrawn : List ℕ → List ℕ
-withdrawn row = set (sets row waitingAt (replicate waitingWords 0)) phaseAt 1
+withdrawn row = set (sets row waitingAt (replicate waitingWords 0)) phaseAt idlePhase
 
 -- ---- the line
 
@@ -80,7 +80,7 @@ withPlace ws n s = set ws (firstInLineAt + n) s
 -- Whether slot t is open and its locks pass the test.
 unfoldable pub holderAt : List ℕ → (List ℕ → Bool) → ℕ → Bool
 unfolding rowOf
-holderAt ws test t = not (eqb (phaseOf (rowOf ws t)) 0) && test (rowOf ws t)
+holderAt ws test t = not (eqb (phaseOf (rowOf ws t)) closedPhase) && test (rowOf ws t)
 
 -- Whether slot t is one of the first n in line and its waiting send's locks pass the test.
 unfoldable pub waiterAt : List ℕ → ℕ → (List ℕ → Bool) → ℕ → Bool
@@ -148,7 +148,7 @@ wokenOr text ws n t q none = startedOrKept text ws n t q (firstOf text (tablesOf
 -- Whether slot t exists and waits.
 unfoldable pub isWaiting : List ℕ → ℕ → Bool
 unfolding rowOf
-isWaiting ws t = ltb t 8 && eqb (phaseOf (rowOf ws t)) 3
+isWaiting ws t = ltb t 8 && eqb (phaseOf (rowOf ws t)) waitingPhase
 
 -- One slot of the line woken; a slot that does not wait leaves the line.
 unfoldable pub wokenSlot : List ℕ → List ℕ → ℕ → ℕ → Waking

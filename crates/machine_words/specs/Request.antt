@@ -6,7 +6,7 @@ use mathlib.Core.List.{List}
 use lib.ListN.{getD, set}
 use lib.Bits.{bitAnd, bitOr}
 use lib.Dec.{eqb, leb, ltb}
-use Rattle.layout.specs.Layout.{domainAt, commutingAt, objectClassAt, phaseAt, depthAt, stepsAt, sumAt, objectAt, kindAt, numberAt, nameAt, argumentAt, objectLocksAt, classLocksAt, wholeLocksAt}
+use Rattle.layout.specs.Layout.{domainAt, commutingAt, objectClassAt, phaseAt, depthAt, stepsAt, sumAt, objectAt, kindAt, numberAt, nameAt, argumentAt, objectLocksAt, classLocksAt, wholeLocksAt, methodKind, objectKind, classKind, domainKind, runningPhase}
 use Rattle.model.specs.Base.{fold, upto, any}
 use Rattle.model.specs.Library.{Member, memberPlace}
 use Rattle.catalog.specs.View.{nameOf, objectWord, classWord, classCount, objectCount, memberCount, membersOf}
@@ -15,7 +15,7 @@ use Rattle.machine_words.specs.Row.{withBits, objectRow}
 use Rattle.catalog.specs.Bodies.{bodyAt}
 use Rattle.machine_words.specs.Turn.{objectFrom}
 
--- A send's target, an object, a class or a domain by its kind 0, 1 or 2 and its number, with the class that has the method,
+-- A send's target, an object, a class or a domain by its kind and number, with the class that has the method,
 -- the method's place there, its name's word, and the send's argument.
 pub record Wanted : Type 0 where
   pub kind : ℕ
@@ -34,7 +34,7 @@ meets held commuting = not (eqb (bitAnd held (4294967295 - commuting)) 0)
 -- The place of the method in class d, by its name, and its commuting mask there.
 unfoldable pub placeIn : List ℕ → List ℕ → Wanted → ℕ → ℕ
 unfolding membersOf memberPlace nameOf
-placeIn text tables q d = memberPlace (membersOf text tables d 1) (nameOf text (q .name))
+placeIn text tables q d = memberPlace (membersOf text tables d methodKind) (nameOf text (q .name))
 
 unfoldable pub commutingIn : List ℕ → List ℕ → Wanted → ℕ → ℕ
 unfolding classWord placeIn
@@ -48,17 +48,17 @@ inDomain tables q d = bit (classWord tables (q .number) domainAt) d
 -- Whether the send locks class d: it is in the domain and has the method.
 unfoldable pub concerns : List ℕ → List ℕ → Wanted → ℕ → Bool
 unfolding inDomain placeIn memberCount
-concerns text tables q d = inDomain tables q d && ltb (placeIn text tables q d) (memberCount tables d 1)
+concerns text tables q d = inDomain tables q d && ltb (placeIn text tables q d) (memberCount tables d methodKind)
 
 -- Whether class d is in the domain and has no such method.
 unfoldable pub lacks : List ℕ → List ℕ → Wanted → ℕ → Bool
 unfolding inDomain placeIn memberCount
-lacks text tables q d = inDomain tables q d && leb (memberCount tables d 1) (placeIn text tables q d)
+lacks text tables q d = inDomain tables q d && leb (memberCount tables d methodKind) (placeIn text tables q d)
 
 -- Whether the send is to a domain of which some class has no such method.
 unfoldable pub lacking : List ℕ → List ℕ → Wanted → Bool
 unfolding lacks any upto
-lacking text tables q = eqb (q .kind) 2 && any (lacks text tables q) (upto (λ d. d) (classCount tables))
+lacking text tables q = eqb (q .kind) domainKind && any (lacks text tables q) (upto (λ d. d) (classCount tables))
 
 -- Whether the row holds a lock that clashes with (M, true) on class d.
 unfoldable pub classMeets : List ℕ → ℕ → ℕ → Bool
@@ -69,9 +69,9 @@ classMeets row d commuting = meets (bitOr (getD row (classLocksAt + d) 0) (getD 
 unfoldable pub rowMeets : List ℕ → List ℕ → Wanted → List ℕ → Bool
 unfolding meets classMeets classWord commutingIn concerns any upto
 rowMeets text tables q row =
-    cond (eqb (q .kind) 0)
+    cond (eqb (q .kind) objectKind)
     (meets (bitOr (getD row (objectLocksAt + q .number) 0) (getD row (wholeLocksAt + q .class) 0)) (classWord tables (q .class) (commutingAt + q .place)))
-    (cond (eqb (q .kind) 1)
+    (cond (eqb (q .kind) classKind)
     (classMeets row (q .class) (classWord tables (q .class) (commutingAt + q .place)))
     (any (λ d. concerns text tables q d && classMeets row d (commutingIn text tables q d)) (upto (λ d. d) (classCount tables))))
 
@@ -86,8 +86,8 @@ domainLock text tables q row d = cond (concerns text tables q d) (withLock row (
 unfoldable pub locked : List ℕ → List ℕ → Wanted → List ℕ → List ℕ
 unfolding placeIn concerns fold upto
 locked text tables q row =
-    cond (eqb (q .kind) 0) (withLock (withLock row (objectLocksAt + q .number) (q .place)) (classLocksAt + q .class) (q .place))
-    (cond (eqb (q .kind) 1) (withLock row (wholeLocksAt + q .class) (q .place))
+    cond (eqb (q .kind) objectKind) (withLock (withLock row (objectLocksAt + q .number) (q .place)) (classLocksAt + q .class) (q .place))
+    (cond (eqb (q .kind) classKind) (withLock row (wholeLocksAt + q .class) (q .place))
     (fold (domainLock text tables q) row (upto (λ d. d) (classCount tables))))
 
 -- Whether a send to a domain locks class d, and the row has not that lock.
@@ -99,8 +99,8 @@ misses text tables q row d = concerns text tables q d && not (bit (getD row (who
 unfoldable pub ownsLocks : List ℕ → List ℕ → Wanted → List ℕ → Bool
 unfolding misses any upto bit
 ownsLocks text tables q row =
-    cond (eqb (q .kind) 0) (bit (getD row (objectLocksAt + q .number) 0) (q .place) && bit (getD row (classLocksAt + q .class) 0) (q .place))
-    (cond (eqb (q .kind) 1) (bit (getD row (wholeLocksAt + q .class) 0) (q .place))
+    cond (eqb (q .kind) objectKind) (bit (getD row (objectLocksAt + q .number) 0) (q .place) && bit (getD row (classLocksAt + q .class) 0) (q .place))
+    (cond (eqb (q .kind) classKind) (bit (getD row (wholeLocksAt + q .class) 0) (q .place))
     (not (any (misses text tables q row) (upto (λ d. d) (classCount tables)))))
 
 -- ---- the message
@@ -124,7 +124,7 @@ firstOf text tables q =
 
 -- The row with a running message: its target, name and argument.
 unfoldable pub namedRow : Wanted → List ℕ → List ℕ
-namedRow q row = set (set (set (set (set row phaseAt 2) kindAt (q .kind)) numberAt (q .number)) nameAt (q .name)) argumentAt (q .argument)
+namedRow q row = set (set (set (set (set row phaseAt runningPhase) kindAt (q .kind)) numberAt (q .number)) nameAt (q .name)) argumentAt (q .argument)
 
 -- The row with the message past the last object.
 unfoldable pub pastRow : ℕ → List ℕ → List ℕ

@@ -11,7 +11,7 @@ use mathlib.Core.List.{List, [], _∷_, _++_}
 use lib.ListN.{getD, set, drop, replicate}
 use lib.Bits.{bitOr}
 use lib.Dec.{eqb, ltb}
-use Rattle.layout.specs.Layout.{valuesMost, phaseAt, depthAt, stepsAt, sumAt, objectAt, argumentAt, changedAt, lockMarksAt, calledAt, activationsAt, nextAt, endAt, gotAt, replyAt, activationWords, shallowWords, objectLocksAt, marksAt, setMarksAt, waitingAt, notesAt, rowWords}
+use Rattle.layout.specs.Layout.{valuesMost, phaseAt, depthAt, stepsAt, sumAt, objectAt, argumentAt, changedAt, lockMarksAt, calledAt, activationsAt, nextAt, endAt, gotAt, replyAt, activationWords, shallowWords, objectLocksAt, marksAt, setMarksAt, waitingAt, notesAt, rowWords, idlePhase}
 use Rattle.model.specs.Base.{digit}
 use Rattle.model.specs.Form.{Change, replace, increase}
 use Rattle.model.specs.Message.{changed}
@@ -196,4 +196,4 @@ carried row values (call first end argument) = goingTo (callRow first end argume
 carried row values (reply v) = goingTo (replyRow v row) values
 carried row values (back v) = goingTo (backRow v row) values
 carried row values (next o first end sum) = goingTo (objectRow o first end sum row) values
-carried row values (answer v) = record { answered = Told.answer v; row = set row phaseAt 1; values = values }
+carried row values (answer v) = record { answered = Told.answer v; row = set row phaseAt idlePhase; values = values }

@@ -1,19 +1,19 @@
 -- The state as tables and rows: each row's length, what a call finds in words that fit, and what is kept where one row is written.
-use Prim.Native.Nat.{ℕ, suc, _+_, _≤_, _<_}
+use Prim.Native.Nat.{ℕ, _+_, _≤_, _<_}
 use native.Mathlib.Omega.{arith}
 use mathlib.Core.Path.{_≡_, refl, sym, ap, _∙_}
 use mathlib.Core.Logic.{_≢_}
 use mathlib.Core.Bool.{Bool, true, false, cond, _&&_}
 use mathlib.Core.List.{List}
 use lib.ListN.{length, getD, take, drop, set, length-set, length-take, length-drop}
-use lib.Seq.{length-sets, getD-set-other, getD-take, getD-drop, ext-getD, take-take, take-set-le, drop-drop, drop-set-lt, take-set-lt, drop-set-add}
+use lib.Seq.{length-sets, getD-set-other, getD-take, getD-drop, ext-getD, take-set-le}
 use lib.Dec.{eqb, leb, ltb}
 use borrow.Author.Tests.{ltb-false, leb-true, eqb-true}
 use Rattle.layout.specs.Layout.{valuesMost, valueCountAt, textLengthAt, startMarkAt, tableWords, waitingAt, waitingWords, rowWords, lineAt, firstInLineAt, stateWords}
 use Rattle.laws.specs.Lists.{both-left, both-right}
 use Rattle.machine_words.specs.Spans.{sets-else, sets-there, drop-sets}
 use Rattle.machine_words.specs.Line.{waitingIn, countIn, firstInLine}
-use Rattle.machine_words.specs.Calls.{mark, tablesOf, rowStart, rowOf, withRow, isStarted, misfitOf}
+use Rattle.machine_words.specs.Calls.{Lent, lending, mark, tablesOf, rowStart, rowOf, withRow, isStarted, misfitOf}
 
 -- ---- rows
 
@@ -70,7 +70,8 @@ module _ (ws : List ℕ) (long : stateWords ≤ length ws) (s : ℕ) (h : s < 8)
   with-line n = ap (take n) (drop-sets row ws (rowStart s) firstInLineAt (omega arith))
 
   -- A state that fits still fits.
-  pub with-fit : (text values values′ : List ℕ) → length values′ ≡ length values → misfitOf text (withRow ws s row) values′ ≡ misfitOf text ws values
+  pub with-fit : (text values values′ : List ℕ) → length values′ ≡ length values
+      → misfitOf (lending text (withRow ws s row) values′) ≡ misfitOf (lending text ws values)
   unfolding misfitOf
   with-fit text values values′ e = λ i.
       cond (ltb (length-sets ws (rowStart s) row i) stateWords) 21
@@ -108,7 +109,7 @@ module _ (ws : List ℕ) (i v : ℕ) (h : lineAt ≤ i) where
   head-word : (j : ℕ) → j < tableWords → getD (set ws i v) j 0 ≡ getD ws j 0
   head-word j l = getD-set-other ws i j v 0 (λ e. omega arith)
 
-  pub place-fit : (text values : List ℕ) → misfitOf text (set ws i v) values ≡ misfitOf text ws values
+  pub place-fit : (text values : List ℕ) → misfitOf (lending text (set ws i v) values) ≡ misfitOf (lending text ws values)
   unfolding misfitOf
   place-fit text values = λ j.
       cond (ltb (length-set ws i v j) stateWords) 21
@@ -152,29 +153,32 @@ waiting-part ws t =
 
 -- ---- what fits
 
-pub record Fit (ws values : List ℕ) : Type 0 where
-  pub long : stateWords ≤ length ws
-  pub count : length values ≡ getD (tablesOf ws) valueCountAt 0
-  pub few : length values ≤ valuesMost
+pub record Fit (x : Lent) : Type 0 where
+  pub long : stateWords ≤ length (x .words)
+  pub count : length (x .values) ≡ getD (tablesOf (x .words)) valueCountAt 0
+  pub few : length (x .values) ≤ valuesMost
 
 -- What a call knows of a state that fits.
-pub fit-is : (text ws values : List ℕ) → misfitOf text ws values ≡ 0 → Fit ws values
+pub fit-is : (x : Lent) → misfitOf x ≡ 0 → Fit x
 unfolding misfitOf
-fit-is text ws values e = go (ltb (length ws) stateWords) (isStarted text ws values) refl refl e
+fit-is x e = go (ltb (length (x .words)) stateWords) (isStarted x) refl refl e
   where
     first : Bool
-    first = eqb (getD ws startMarkAt 0) mark && eqb (getD ws textLengthAt 0) (length text)
+    first = eqb (getD (x .words) startMarkAt 0) mark && eqb (getD (x .words) textLengthAt 0) (length (x .text))
 
     count : Bool
-    count = eqb (getD ws valueCountAt 0) (length values)
+    count = eqb (getD (x .words) valueCountAt 0) (length (x .values))
 
-    go : (a b : Bool) → ltb (length ws) stateWords ≡ a → isStarted text ws values ≡ b → _≡_ {A = ℕ} (cond a 21 (cond b 0 24)) 0 → Fit ws values
-    go true b x y q = absurd (omega arith)
-    go false false x y q = absurd (omega arith)
-    go false true x y q =
-        let counted = both-right first count (both-left (first && count) (leb (length values) valuesMost) y) in
+    few : Bool
+    few = leb (length (x .values)) valuesMost
+
+    go : (a b : Bool) → ltb (length (x .words)) stateWords ≡ a → isStarted x ≡ b → _≡_ {A = ℕ} (cond a 21 (cond b 0 24)) 0 → Fit x
+    go true b y z q = absurd (omega arith)
+    go false false y z q = absurd (omega arith)
+    go false true y z q =
+        let counted = both-right first count (both-left (first && count) few z) in
         record {
-          long = ltb-false (length ws) stateWords x;
-          count = sym (getD-take tableWords ws 3 0 (omega arith) ∙ eqb-true (getD ws valueCountAt 0) (length values) counted);
-          few = leb-true (length values) valuesMost (both-right (first && count) (leb (length values) valuesMost) y);
+          long = ltb-false (length (x .words)) stateWords y;
+          count = sym (getD-take tableWords (x .words) 3 0 (omega arith) ∙ eqb-true (getD (x .words) valueCountAt 0) (length (x .values)) counted);
+          few = leb-true (length (x .values)) valuesMost (both-right (first && count) few z);
         }

@@ -6,7 +6,7 @@ use mathlib.Core.Option.{Option, none, some}
 use mathlib.Core.List.{List}
 use lib.ListN.{length, getD, take, drop}
 use lib.Dec.{eqb, leb, ltb}
-use Rattle.layout.specs.Layout.{domainAt, objectClassAt, objectValuesAt, depthAt, stepsAt, sumAt, objectAt, kindAt, numberAt, nameAt, nextAt, endAt, argAt, gotAt, replyAt}
+use Rattle.layout.specs.Layout.{domainAt, objectClassAt, objectValuesAt, depthAt, stepsAt, sumAt, objectAt, kindAt, numberAt, nameAt, nextAt, endAt, argAt, gotAt, replyAt, objectKind, classKind, domainKind, fieldKind, partUnit}
 use Rattle.model.specs.Text.{words}
 use Rattle.model.specs.Word.{Name}
 use Rattle.model.specs.Expression.{Expression, valueOf}
@@ -21,9 +21,9 @@ use Rattle.machine_words.specs.Row.{Turn, misfit, stop, skip, assign, ca
 
 -- ---- objects
 
--- Whether the target exists: its number is that of an object (kind 0), or of a class (kinds 1 and 2).
+-- Whether the target exists: its number is that of an object, or of a class.
 unfoldable pub targetThere : List ℕ → ℕ → ℕ → Bool
-targetThere tables kind n = cond (eqb kind 0) (ltb n (objectCount tables)) (leb kind 2 && ltb n (classCount tables))
+targetThere tables kind n = cond (eqb kind objectKind) (ltb n (objectCount tables)) (leb kind domainKind && ltb n (classCount tables))
 
 -- Whether the object is one of those that the row's message visits. An object whose class does not exist counts too: it has no
 -- body to run, and so fits no turn.
@@ -31,7 +31,7 @@ unfoldable pub inTarget : List ℕ → ℕ → ℕ → ℕ → Bool
 unfolding objectWord classWord bit
 inTarget tables kind n o =
     let c = objectWord tables o objectClassAt in
-    cond (eqb kind 0) (eqb o n) (leb (classCount tables) c || cond (eqb kind 1) (eqb c n) (bit (classWord tables n domainAt) c))
+    cond (eqb kind objectKind) (eqb o n) (leb (classCount tables) c || cond (eqb kind classKind) (eqb c n) (bit (classWord tables n domainAt) c))
 
 -- The first of the m numbers from `from` on for which p holds; the number past them where there is none.
 unfoldable pub firstFrom : (ℕ → Bool) → ℕ → ℕ → ℕ
@@ -61,7 +61,7 @@ valuesAt tables values o size = take size (drop (objectWord tables o objectValue
 -- The value of an object's field by name, from the object's own values.
 unfoldable pub fieldIn : List ℕ → List ℕ → ℕ → List ℕ → Name → ℕ
 unfolding membersOf memberPlace
-fieldIn text tables c own f = getD own (memberPlace (membersOf text tables c 0) f) 0
+fieldIn text tables c own f = getD own (memberPlace (membersOf text tables c fieldKind) f) 0
 
 -- The value of an expression in an activation on an object of class c with the values `own`; none where it names a field that
 -- the class does not have.
@@ -79,8 +79,8 @@ withValue (some v) turn = turn v
 unfoldable pub assignTurn : List ℕ → List ℕ → ℕ → ℕ → Change → Name → ℕ → Turn
 unfolding memberPlace membersOf memberCount
 assignTurn text tables c base how f v =
-    let k = memberPlace (membersOf text tables c 0) f in
-    cond (ltb k (memberCount tables c 0)) (assign how (base + k) v) misfit
+    let k = memberPlace (membersOf text tables c fieldKind) f in
+    cond (ltb k (memberCount tables c fieldKind)) (assign how (base + k) v) misfit
 
 -- A self-call to a body, unless it would be the ninth activation.
 abbrev pub callTurn : ℕ → Option Member → ℕ → Turn
@@ -119,10 +119,10 @@ unfolding objectWord statementWord memberCount partOf formOf valueIn actionTurn
 lineTurn text tables values o depth s arg got =
     let c = objectWord tables o objectClassAt in
     let base = objectWord tables o objectValuesAt in
-    let size = memberCount tables c 0 in
+    let size = memberCount tables c fieldKind in
     let own = valuesAt tables values o size in
     let w = statementWord tables s in
-    cond (leb (classCount tables) c || ltb (length values) (base + size) || ltb (length text) (w / 65536 + w % 65536)) misfit
+    cond (leb (classCount tables) c || ltb (length values) (base + size) || ltb (length text) (w / partUnit + w % partUnit)) misfit
     (formTurn (formOf (words (partOf text w))) (statementTurn text tables c base depth (valueIn text tables c own arg got)))
 
 -- ---- the turn

@@ -1,5 +1,5 @@
-// A row's activations, putting a message on an object, and how a statement changes a value. What the words of the state mean is in
-// specs/.
+// The types of a send, a turn and an answer; a row's activations, and putting a message on an object. What the words of the state mean
+// is in specs/, and specs/Said.antt has what each type stands for there.
 ghost use mathlib.Core.Path.{_≡_};
 ghost use Rattle.machine_words.specs.Row.{act, top, withAct, newAct, objectRow};
 
@@ -7,6 +7,55 @@ ghost use Rattle.machine_words.specs.Row.{act, top, withAct, newAct, obj
 pub enum Change {
     Replace,
     Increase,
+}
+
+// The next step of a running message: see `Turn` in specs/Row.antt.
+pub enum Turn {
+    Misfit,
+    Stop,
+    Skip,
+    Assign(Change, usize, u32),
+    Call(u32, u32, u32),
+    Reply(u32),
+    Back(u32),
+    Next(u32, u32, u32, u32),
+    Answer(u32),
+}
+
+// The target of a send, by number: an object, a class's own objects, or a class's domain.
+pub enum Target {
+    Object(u32),
+    Class(u32),
+    Domain(u32),
+}
+
+// A send, as the lock rules see it: see `Wanted` in specs/Request.antt.
+pub struct Wanted {
+    pub kind: u32,
+    pub number: u32,
+    pub class: u32,
+    pub place: u32,
+    pub name: u32,
+    pub argument: u32,
+}
+
+// Where a message starts: on an object, with its method's first statement there and the one past its last; past the last
+// object; or nowhere, where its first object has no such method.
+pub enum First {
+    On(u32, u32, u32),
+    Past(u32),
+    Nowhere,
+}
+
+// What a call answers: done (a send: granted), going or the message's answer; a number 21 to 37, or 42; 40 with the
+// lowest clashing slot; 41.
+pub enum Outcome {
+    Done,
+    Going,
+    Answer(u32),
+    Refused(u32),
+    Held(u32),
+    Stopped,
 }
 
 // A word of an activation.

@@ -5,7 +5,6 @@ use mathlib.Core.Option.{Option, none, some}
 use mathlib.Core.List.{List, [], _++_}
 use lib.ListN.{length, getD}
 use lib.Dec.{eqb, ltb}
-pub use Rattle.layout.specs.Layout.{stateWords}
 use Rattle.model.specs.Library.{methodNames}
 use Rattle.model.specs.Read.{Reading, accepted, refused, read}
 use Rattle.model.specs.Told.{Told, refusal, orFault}
@@ -72,11 +71,11 @@ service p =
 abbrev pub call : (p : Program) → World (service p) → Call → Answer × World (service p)
 call p w c = Calls.call (service p) w c
 
--- The answer of a start on a text, that many values and a state of `size` words: the text's fault, 21, 22. The state has "one
--- length, the same for every text, named in docs/": `stateWords`.
-unfoldable pub startAnswer : List ℕ → ℕ → ℕ → Told
+-- The answer of a start on a text, that many values and a state of `size` words: the text's fault, 21, 22. `one` is the state's "one
+-- length, the same for every text, named in docs/".
+unfoldable pub startAnswer : ℕ → List ℕ → ℕ → ℕ → Told
 unfolding read startingValues
-startAnswer text count size = orFault (read text) (λ l. cond (ltb size stateWords) (refusal 21 0) (counted l count))
+startAnswer one text count size = orFault (read text) (λ l. cond (ltb size one) (refusal 21 0) (counted l count))
 
 -- The answers of a list of calls made after a start on these values, and the fields after it.
 unfoldable pub playedBy : Program → List ℕ → List Call → List Answer × List ℕ

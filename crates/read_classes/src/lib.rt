@@ -208,7 +208,7 @@ fn is_written(tables: &[u32], class: u32, place: u32) -> bool
     ensures { λ r. ⌜ ((text : List ℕ) → Writes text (now (tables .entry)) class place r) ⌝ }
 {
     if place < catalog::member_count(tables, class, 1) {
-        catalog::member_word(tables, class, 1, place) / 1048576 == class
+        catalog::member_word(tables, class, 1, place) / layout::ORIGIN_UNIT == class
     } else {
         false
     }

@@ -23,10 +23,6 @@ ghost use Rattle.read_lines.specs.Took.{StatementTook, ObjectTook};
 const POINT: u8 = 46;
 
 // The kinds of members.
-const FIELDS: u32 = 0;
-
-const METHODS: u32 = 1;
-
 // What a line means for a method of the class above: 1 it defines it, 2 the class ends there, 0 neither.
 fn look(line: &[u8], method: &[u8]) -> u32
     ensures { λ r. ⌜ r ≡ lookAt (now (method .entry)) (formOf (words (now (line .entry)))) ⌝ }
@@ -83,14 +79,14 @@ fn has_member(text: &[u8], tables: &[u32], class: u32, kind: u32, name: &[u8]) -
 fn is_stray(text: &[u8], tables: &[u32], word: &[u8]) -> bool
     ensures { λ r. ⌜ r ≡ isStray (libraryOf (now (text .entry)) (now (tables .entry))) (now (word .entry)) ⌝ }
 {
-    text_lex::is_name(word) & !has_member(text, tables, last_class(tables), FIELDS, word)
+    text_lex::is_name(word) & !has_member(text, tables, last_class(tables), layout::FIELDS, word)
 }
 
 // Whether the class being read has the method, or defines it further below.
 fn is_own(text: &[u8], tables: &[u32], below: usize, method: &[u8]) -> bool
     ensures { λ r. ⌜ r ≡ ownMethod (libraryOf (now (text .entry)) (now (tables .entry))) (linesAt (now (text .entry)) below) (now (method .entry)) ⌝ }
 {
-    if has_member(text, tables, last_class(tables), METHODS, method) {
+    if has_member(text, tables, last_class(tables), layout::METHODS, method) {
         true
     } else {
         is_later(text, below, method)
@@ -104,7 +100,7 @@ fn has_method(text: &[u8], tables: &[u32], below: usize, class: u32, method: &[u
     if class == last_class(tables) {
         is_own(text, tables, below, method)
     } else {
-        has_member(text, tables, class, METHODS, method)
+        has_member(text, tables, class, layout::METHODS, method)
     }
 }
 
@@ -197,15 +193,15 @@ fn count_statement(tables: &mut [u32]) -> u32
 {
     let class = last_class(tables);
     let method = catalog::class_word(tables, class, layout::LATEST_AT);
-    if catalog::shown_count(tables, class, METHODS) <= method {
+    if catalog::shown_count(tables, class, layout::METHODS) <= method {
         return 0;
     }
-    let word = catalog::member_word(tables, class, METHODS, method);
-    let body = catalog::body_word(tables, class, METHODS, method);
+    let word = catalog::member_word(tables, class, layout::METHODS, method);
+    let body = catalog::body_word(tables, class, layout::METHODS, method);
     if 32 <= body % 64 {
         return 17;
     }
-    catalog::put_member(tables, class, METHODS, method, word, body + 1);
+    catalog::put_member(tables, class, layout::METHODS, method, word, body + 1);
     0
 }
 
@@ -245,7 +241,7 @@ fn object_fault(text: &[u8], tables: &[u32], name: &[u8], class: &[u8], values: 
     let taken = catalog::object_number(text, tables, name) < objects;
     let number = catalog::class_number(text, tables, class);
     let known = number < catalog::class_count(tables);
-    let fields = catalog::shown_count(tables, number, FIELDS) as usize;
+    let fields = catalog::shown_count(tables, number, layout::FIELDS) as usize;
     object_lowest(taken, !known, (64 <= objects) | (fields < values))
 }
 

@@ -69,7 +69,7 @@ fn is_different(text: &[u8], word: u32, other: u32) -> bool
     ensures { λ r. ⌜ r ≡ differ (now (text .entry)) word other ⌝ }
 {
     catalog::is_named(text, word, catalog::name_of(text, other))
-        & (word / 1048576 != other / 1048576)
+        & (word / layout::ORIGIN_UNIT != other / layout::ORIGIN_UNIT)
 }
 
 // Whether a field, given by its word, differs from a field of its name in a class.

@@ -3,8 +3,9 @@ use Prim.Native.Nat.{ℕ, _+_, _≤_, _/_, min}
 use mathlib.Core.Path.{_≡_}
 use mathlib.Core.List.{List, [], _∷_, _++_}
 use lib.ListN.{length, take}
+use Rattle.machine_words.specs.Calls.{Lent}
 use Rattle.output.specs.Append.{Printed}
-use Rattle.call_lines.specs.Lent.{Lent, lent, onLent}
+use Rattle.call_lines.specs.Lent.{onLent}
 use Rattle.rehearsal.specs.Parts.{Reached, ended, next, fed}
 
 -- The most bytes that an answer's line has.
@@ -12,8 +13,8 @@ abbrev pub widest : ℕ
 widest = 18
 
 -- `size` bytes are written, and the unfinished line has `kept` bytes.
-abbrev pub reached : List ℕ → List ℕ → List ℕ → ℕ → List ℕ → ℕ → Reached Lent
-reached state values line kept out size = record { out = take size out; machine = lent state values; line = take kept line }
+abbrev pub reached : Lent → List ℕ → ℕ → List ℕ → ℕ → Reached Lent
+reached x line kept out size = record { out = take size out; machine = x; line = take kept line }
 
 -- One byte more of a line is kept, where there is room.
 pub record Keeps (line : List ℕ) (kept byte : ℕ) (line′ : List ℕ) (kept′ : ℕ) : Type 0 where
@@ -21,27 +22,27 @@ pub record Keeps (line : List ℕ) (kept byte : ℕ) (line′ : List ℕ) (kept�
   pub short : kept′ ≤ length line
 
 -- A byte is read. As many bytes of a line are kept as the list lent for it has.
-pub record Advances (text state values line : List ℕ) (kept : ℕ) (out : List ℕ) (size byte : ℕ) (state′ values′ line′ : List ℕ) (kept′ : ℕ) (out′ : List ℕ) (size′ : ℕ) : Type 0 where
-  pub reaches : next (onLent text) (length line) (reached state values line kept out size) byte ≡ reached state′ values′ line′ kept′ out′ size′
+pub record Advances (x : Lent) (line : List ℕ) (kept : ℕ) (out : List ℕ) (size byte : ℕ) (y : Lent) (line′ : List ℕ) (kept′ : ℕ) (out′ : List ℕ) (size′ : ℕ) : Type 0 where
+  pub reaches : next onLent (length line) (reached x line kept out size) byte ≡ reached y line′ kept′ out′ size′
   pub short : kept′ ≤ length line
   pub few : size′ ≤ size + widest
 
 -- A part is read whole.
-pub record FeedsAll (text state values line : List ℕ) (kept : ℕ) (part out state′ values′ line′ : List ℕ) (kept′ : ℕ) (out′ : List ℕ) (size′ : ℕ) : Type 0 where
-  pub reaches : fed (onLent text) (length line) (record { out = []; machine = lent state values; line = take kept line }) part ≡ reached state′ values′ line′ kept′ out′ size′
+pub record FeedsAll (x : Lent) (line : List ℕ) (kept : ℕ) (part out : List ℕ) (y : Lent) (line′ : List ℕ) (kept′ : ℕ) (out′ : List ℕ) (size′ : ℕ) : Type 0 where
+  pub reaches : fed onLent (length line) (record { out = []; machine = x; line = take kept line }) part ≡ reached y line′ kept′ out′ size′
   pub same : length line′ ≡ length line
   pub room : size′ ≤ length out
 
 -- As much of a part is read as there is room for an answer to each byte.
-pub record Feeds (text state values line : List ℕ) (kept : ℕ) (part out : List ℕ) (read : ℕ) (state′ values′ line′ : List ℕ) (kept′ : ℕ) (out′ : List ℕ) (size′ : ℕ) : Type 0 where
+pub record Feeds (x : Lent) (line : List ℕ) (kept : ℕ) (part out : List ℕ) (read : ℕ) (y : Lent) (line′ : List ℕ) (kept′ : ℕ) (out′ : List ℕ) (size′ : ℕ) : Type 0 where
   pub front : read ≡ min (length part) (length out / widest)
-  pub feeds : FeedsAll text state values line kept (take read part) out state′ values′ line′ kept′ out′ size′
+  pub feeds : FeedsAll x line kept (take read part) out y line′ kept′ out′ size′
 
 -- The most bytes that are written at the end: 51 and LF, and a line of at most 384 bytes for each of 64 objects.
 abbrev pub endMost : ℕ
 endMost = 24579
 
 -- The end of the input: what is printed there is written over the front.
-pub record Finishes (text state values line : List ℕ) (kept : ℕ) (out : List ℕ) (size : ℕ) (out′ : List ℕ) : Type 0 where
-  pub printed : Printed (ended (onLent text) (lent state values) (take kept line)) out size out′
+pub record Finishes (x : Lent) (line : List ℕ) (kept : ℕ) (out : List ℕ) (size : ℕ) (out′ : List ℕ) : Type 0 where
+  pub printed : Printed (ended onLent x (take kept line)) out size out′
   pub few : size ≤ endMost

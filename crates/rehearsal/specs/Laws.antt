@@ -15,10 +15,10 @@ use Rattle.model.specs.Text.{words}
 use Rattle.model.specs.Tables.{digits}
 use Rattle.model.specs.Service.{Answer, done, going, answer, refuse, held, stopped}
 use Rattle.model.specs.Rehearsal.{unended, CallLine, callLine, callFor, answerPrinted}
-use Rattle.machine_words.specs.Calls.{called}
+use Rattle.machine_words.specs.Calls.{Lent, called}
 use Rattle.output.specs.Append.{Appended, Printed, appended-none, appended-then, appended-printed}
 use Rattle.output.specs.Digits.{digits-le}
-use Rattle.call_lines.specs.Lent.{Lent, lent, lentLibrary, lentReply, lentLast, onLent}
+use Rattle.call_lines.specs.Lent.{lentLibrary, lentReply, lentLast, onLent}
 use Rattle.call_lines.specs.Says.{Says}
 use Rattle.rehearsal.specs.Parts.{Reached, ended, onByte, next, fed}
 use Rattle.rehearsal.specs.Feeds.{widest, reached, Keeps, Advances, FeedsAll, Finishes}
@@ -49,9 +49,9 @@ printed-few (held s) = omega (arith, digits-le 10 s, length-append (digits 10 s)
 printed-few stopped = omega arith
 
 -- The line of an answer has at most 18 bytes: `answer`, a space, ten digits and LF.
-pub reply-few : (text : List ℕ) (x : Lent) (o : Option CallLine) → length (lentReply text x o .printed) ≤ widest
-reply-few text x none = omega arith
-reply-few text x (some c) = printed-few (called text (x .words) (x .values) (callFor (lentLibrary text (x .words)) c) .answered)
+pub reply-few : (x : Lent) (o : Option CallLine) → length (lentReply x o .printed) ≤ widest
+reply-few x none = omega arith
+reply-few x (some c) = printed-few (called x (callFor (lentLibrary (x .text) (x .words)) c) .answered)
 
 -- What was written before, followed by the run.
 pub appended-front : {run list list′ : List ℕ} {at end : ℕ} → Appended run list at end list′ → end ≤ length list → take end list′ ≡ take at list ++ run
@@ -61,57 +61,57 @@ appended-front {run} {list} {list′} {at} {end} h fits =
     ap (take end) (h .stored ∙ sets-eq run list at long)
     ∙ take-at (take at list ++ run) (drop (at + length run) list) end size
 
-module _ (text state values line : List ℕ) (kept : ℕ) (out : List ℕ) (size byte : ℕ) where
-  x : Reached Lent
-  x = reached state values line kept out size
+module _ (x : Lent) (line : List ℕ) (kept : ℕ) (out : List ℕ) (size byte : ℕ) where
+  before : Reached Lent
+  before = reached x line kept out size
 
-  pub on-lf : byte ≡ 10 → size + widest ≤ length out → {state′ values′ out′ : List ℕ} {size′ : ℕ} (line′ : List ℕ)
-      → Says (lentReply text (lent state values) (callLine (words (take kept line)))) out size size′ state′ values′ out′
-      → Advances text state values line kept out size byte state′ values′ line′ 0 out′ size′
-  unfolding x onLent
-  on-lf e room {state′} {values′} {out′} {size′} line′ a =
+  pub on-lf : byte ≡ 10 → size + widest ≤ length out → {y : Lent} {out′ : List ℕ} {size′ : ℕ} (line′ : List ℕ)
+      → Says (lentReply x (callLine (words (take kept line)))) out size size′ y out′
+      → Advances x line kept out size byte y line′ 0 out′ size′
+  unfolding before onLent
+  on-lf e room {out′ = out′} {size′ = size′} line′ a =
       let o = callLine (words (take kept line)) in
-      let few : size′ ≤ size + widest = omega (arith, a .written .behind, reply-few text (lent state values) o) in
+      let few : size′ ≤ size + widest = omega (arith, a .written .behind, reply-few x o) in
       record {
         reaches =
-            ap (onByte (onLent text) (length line) x byte) (eq-eqb byte 10 e)
-            ∙ ap (λ (l : List ℕ). record { out = l; machine = lentReply text (lent state values) o .machine; line = [] }) (sym (appended-front (a .written) (omega arith)))
-            ∙ ap (λ (y : Lent). record { out = take size′ out′; machine = y; line = [] }) (a .left);
+            ap (onByte onLent (length line) before byte) (eq-eqb byte 10 e)
+            ∙ ap (λ (l : List ℕ). record { out = l; machine = lentReply x o .machine; line = [] }) (sym (appended-front (a .written) (omega arith)))
+            ∙ ap (λ (m : Lent). record { out = take size′ out′; machine = m; line = [] }) (a .left);
         short = omega arith;
         few = few;
       }
 
-  pub on-other : (byte ≡ 10 → ⊥) → {line′ : List ℕ} {kept′ : ℕ} → Keeps line kept byte line′ kept′ → Advances text state values line kept out size byte state values line′ kept′ out size
-  unfolding x
+  pub on-other : (byte ≡ 10 → ⊥) → {line′ : List ℕ} {kept′ : ℕ} → Keeps line kept byte line′ kept′ → Advances x line kept out size byte x line′ kept′ out size
+  unfolding before
   on-other e {line′} {kept′} k =
       record {
         reaches =
-            ap (onByte (onLent text) (length line) x byte) (ne-eqb byte 10 e)
-            ∙ ap (λ (l : List ℕ). record { out = take size out; machine = lent state values; line = l }) (sym (k .bytes));
+            ap (onByte onLent (length line) before byte) (ne-eqb byte 10 e)
+            ∙ ap (λ (l : List ℕ). record { out = take size out; machine = x; line = l }) (sym (k .bytes));
         short = k .short;
         few = omega arith;
       }
 
 -- ---- a loop over the bytes of a part
 
-module _ (text : List ℕ) (most : ℕ) (y : Reached Lent) (part : List ℕ) (i : ℕ) where
-  pub fed-end : length part ≤ i → fed (onLent text) most y (drop i part) ≡ y
+module _ (most : ℕ) (y : Reached Lent) (part : List ℕ) (i : ℕ) where
+  pub fed-end : length part ≤ i → fed onLent most y (drop i part) ≡ y
   unfolding fed
   fed-end h = rw (drop-of-length-le part h)
 
-  fed-more : i < length part → fed (onLent text) most y (drop i part) ≡ fed (onLent text) most (next (onLent text) most y (getD part i 0)) (drop (i + 1) part)
+  fed-more : i < length part → fed onLent most y (drop i part) ≡ fed onLent most (next onLent most y (getD part i 0)) (drop (i + 1) part)
   unfolding fed
   fed-more h = rw (add-one, drop-cons part i 0 h)
 
 -- One turn: a byte more is read.
-pub fed-turn : (text part : List ℕ) (i most : ℕ) {state values line state′ values′ line′ out out′ : List ℕ} {kept size kept′ size′ : ℕ} → i < length part → length line ≡ most
-    → Advances text state values line kept out size (getD part i 0) state′ values′ line′ kept′ out′ size′
-    → fed (onLent text) most (reached state′ values′ line′ kept′ out′ size′) (drop (i + 1) part) ≡ fed (onLent text) most (reached state values line kept out size) (drop i part)
-fed-turn text part i most {state} {values} {line} {out = out} {kept = kept} {size = size} h e a =
-    let x = reached state values line kept out size in
-    sym (fed-more text most x part i h
-    ∙ ap (λ (n : ℕ). fed (onLent text) most (next (onLent text) n x (getD part i 0)) (drop (i + 1) part)) (sym e)
-    ∙ ap (λ (y : Reached Lent). fed (onLent text) most y (drop (i + 1) part)) (a .reaches))
+pub fed-turn : (part : List ℕ) (i most : ℕ) {x y : Lent} {line line′ out out′ : List ℕ} {kept size kept′ size′ : ℕ} → i < length part → length line ≡ most
+    → Advances x line kept out size (getD part i 0) y line′ kept′ out′ size′
+    → fed onLent most (reached y line′ kept′ out′ size′) (drop (i + 1) part) ≡ fed onLent most (reached x line kept out size) (drop i part)
+fed-turn part i most {x} {line = line} {out = out} {kept = kept} {size = size} h e a =
+    let before = reached x line kept out size in
+    sym (fed-more most before part i h
+    ∙ ap (λ (n : ℕ). fed onLent most (next onLent n before (getD part i 0)) (drop (i + 1) part)) (sym e)
+    ∙ ap (λ (r : Reached Lent). fed onLent most r (drop (i + 1) part)) (a .reaches))
 
 -- ---- as much as there is room for
 
@@ -122,11 +122,11 @@ take-least kept line n e = go (ltb (length line) kept) refl
     go false t = let h = ltb-false (length line) kept t in let q : n ≡ kept = omega arith in ap (λ (k : ℕ). take k line) q
     go true t = let h = ltb-true (length line) kept t in take-all n line (omega arith) ∙ sym (take-all kept line (omega arith))
 
-pub feeds-begun : {text state values line part out state′ values′ line′ out′ : List ℕ} {kept begun kept′ size′ : ℕ} → begun ≡ min kept (length line)
-    → FeedsAll text state values line begun part out state′ values′ line′ kept′ out′ size′ → FeedsAll text state values line kept part out state′ values′ line′ kept′ out′ size′
-feeds-begun {text} {state} {values} {line} {part} {kept = kept} {begun = begun} e f = record {
+pub feeds-begun : {x y : Lent} {line part out line′ out′ : List ℕ} {kept begun kept′ size′ : ℕ} → begun ≡ min kept (length line)
+    → FeedsAll x line begun part out y line′ kept′ out′ size′ → FeedsAll x line kept part out y line′ kept′ out′ size′
+feeds-begun {x} {line = line} {part = part} {kept = kept} {begun = begun} e f = record {
   reaches =
-      ap (λ (l : List ℕ). fed (onLent text) (length line) (record { out = []; machine = lent state values; line = l }) part) (sym (take-least kept line begun e))
+      ap (λ (l : List ℕ). fed onLent (length line) (record { out = []; machine = x; line = l }) part) (sym (take-least kept line begun e))
       ∙ f .reaches;
   same = f .same;
   room = f .room;
@@ -153,9 +153,9 @@ module _ (line : List ℕ) (kept n : ℕ) (e : n ≡ min kept (length line)) whe
       go (b ∷ l) k = refl
 
 -- 51 or nothing, then the objects' lines.
-pub finishes : (text state values line : List ℕ) (kept : ℕ) {out out₁ out₂ : List ℕ} {at size : ℕ} → Appended (unended (take kept line)) out 0 at out₁
-    → Appended (lentLast text (lent state values)) out₁ at size out₂ → Finishes text state values line kept out size out₂
+pub finishes : (x : Lent) (line : List ℕ) (kept : ℕ) {out out₁ out₂ : List ℕ} {at size : ℕ} → Appended (unended (take kept line)) out 0 at out₁
+    → Appended (lentLast x) out₁ at size out₂ → Finishes x line kept out size out₂
 unfolding onLent
-finishes text state values line kept {out} {out₁} {out₂} {at} {size} h k =
-    let all : Printed (ended (onLent text) (lent state values) (take kept line)) out size out₂ = appended-printed (appended-then h k) in
-    record { printed = all; few = omega (arith, all .count, ended-few text (lent state values) (take kept line)) }
+finishes x line kept {out} {out₂ = out₂} {size = size} h k =
+    let all : Printed (ended onLent x (take kept line)) out size out₂ = appended-printed (appended-then h k) in
+    record { printed = all; few = omega (arith, all .count, ended-few x (take kept line)) }

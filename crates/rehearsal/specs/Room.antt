@@ -10,9 +10,9 @@ use Rattle.model.specs.Read.{Reading, accepted, refused, read}
 use Rattle.model.specs.Tables.{digits, refusalPrinted}
 use Rattle.model.specs.Rehearsal.{unended, objectsPrinted}
 use Rattle.catalog.specs.View.{objectCount, libraryOf}
-use Rattle.machine_words.specs.Calls.{tablesOf}
+use Rattle.machine_words.specs.Calls.{Lent, tablesOf}
 use Rattle.output.specs.Digits.{digits-le}
-use Rattle.call_lines.specs.Lent.{Lent, lentLast, onLent}
+use Rattle.call_lines.specs.Lent.{lentLast, onLent}
 use Rattle.call_lines.specs.Objects.{objectPrinted, object-few, linesTo, valuesTo, lines-next}
 use Rattle.rehearsal.specs.Parts.{ended}
 use Rattle.rehearsal.specs.declared.Prepared.{Prepared}
@@ -37,18 +37,18 @@ refusal-few fault line =
     )
 
 -- What `prepare` answers: the size of that line, or a number of values that are there.
-module _ {text list words out values state out′ : List ℕ} {r : Prepared} (p : Prepares text list words out r values state out′) where
+module _ {x y : Lent} {out out′ : List ℕ} {r : Prepared} (p : Prepares x out r y out′) where
   pub refused-size : (size : ℕ) → r ≡ Refused size → size ≤ refusalMost
-  refused-size size e = go (read text) (subst (λ (x : Prepared). PreparesOn text list words out (read text) x values state out′) e (p .by-reading))
+  refused-size size e = go (read (x .text)) (subst (λ (q : Prepared). PreparesOn x out (read (x .text)) q y out′) e (p .by-reading))
     where
-      go : (x : Reading) → PreparesOn text list words out x (Refused size) values state out′ → size ≤ refusalMost
+      go : (t : Reading) → PreparesOn x out t (Refused size) y out′ → size ≤ refusalMost
       go (refused fault line) h = omega (arith, h .0 .count, refusal-few fault line)
       go (accepted l) h = absurd h
 
-  pub ready-count : (count : ℕ) → r ≡ Ready count → count ≤ length values
-  ready-count count e = go (read text) (subst (λ (x : Prepared). PreparesOn text list words out (read text) x values state out′) e (p .by-reading))
+  pub ready-count : (count : ℕ) → r ≡ Ready count → count ≤ length (y .values)
+  ready-count count e = go (read (x .text)) (subst (λ (q : Prepared). PreparesOn x out (read (x .text)) q y out′) e (p .by-reading))
     where
-      go : (x : Reading) → PreparesOn text list words out x (Ready count) values state out′ → count ≤ length values
+      go : (t : Reading) → PreparesOn x out t (Ready count) y out′ → count ≤ length (y .values)
       go (refused fault line) h = absurd h
       go (accepted l) h = h .0 .within
 
@@ -73,15 +73,15 @@ module _ (text ws values : List ℕ) where
       )
 
 -- A line for each of at most 64 objects.
-last-few : (text : List ℕ) (x : Lent) → length (lentLast text x) ≤ 24576
+last-few : (x : Lent) → length (lentLast x) ≤ 24576
 unfolding linesTo libraryOf
-last-few text x = let ws = tablesOf (x .words) in omega (arith, lines-few text ws (x .values) (objectCount ws))
+last-few x = let ws = tablesOf (x .words) in omega (arith, lines-few (x .text) ws (x .values) (objectCount ws))
 
 pub unended-few : (line : List ℕ) → length (unended line) ≤ 3
 unended-few [] = omega arith
 unended-few (b ∷ line) = omega arith
 
 -- The last lines, after 51 for an unfinished line.
-pub ended-few : (text : List ℕ) (x : Lent) (line : List ℕ) → length (ended (onLent text) x line) ≤ endMost
+pub ended-few : (x : Lent) (line : List ℕ) → length (ended onLent x line) ≤ endMost
 unfolding onLent
-ended-few text x line = omega (arith, length-append (unended line) (lentLast text x), unended-few line, last-few text x)
+ended-few x line = omega (arith, length-append (unended line) (lentLast x), unended-few line, last-few x)

@@ -10,41 +10,39 @@ use Rattle.model.specs.Vector.{program}
 use Rattle.model.specs.Service.{fresh}
 use Rattle.model.specs.Machine.{service}
 use Rattle.model.specs.Rehearsal.{printedFor, onProgram, rehearsedOn, rehearsed}
+use Rattle.machine_words.specs.Calls.{Lent, lending}
 use Rattle.output.specs.Append.{Printed, over-fits}
 use Rattle.machine_refinement.specs.Refines.{fresh-rep}
-use Rattle.call_lines.specs.Lent.{lent, onLent}
+use Rattle.call_lines.specs.Lent.{onLent}
 use Rattle.rehearsal.specs.declared.Prepared.the-variants.{Refused, Ready}
 use Rattle.rehearsal.specs.Parts as Parts
 use Rattle.rehearsal.specs.Parts.{fed, Fed, ended, whatever-the-parts}
 use Rattle.rehearsal.specs.OnWords.{lent-front-only, lent-prints}
 use Rattle.rehearsal.specs.Feeds.{Feeds, endMost, Finishes}
-use Rattle.rehearsal.specs.Ready.{refusalMost, PreparesOn, Prepares}
+use Rattle.rehearsal.specs.Ready.{refusalMost, withFirst, PreparesOn, Prepares}
 use Rattle.rehearsal.specs.Room.{refusal-few}
 
 -- ---- the parts of an input
 
 -- Parts read one after another, each on what the one before left, and what was written for each: contracts of `feed`.
-pub data Played (text : List ℕ) : List ℕ → List ℕ → List ℕ → ℕ → List (List ℕ) → List (List ℕ) → List ℕ → List ℕ → List ℕ → ℕ → Type 0 where
-  none : {state values line : List ℕ} {kept : ℕ} → Played text state values line kept [] [] state values line kept
-  then : {state values line part out state₁ values₁ line₁ out₁ state₂ values₂ line₂ : List ℕ} {kept read kept₁ size₁ kept₂ : ℕ} {parts outs : List (List ℕ)}
-      → Feeds text state values line kept part out read state₁ values₁ line₁ kept₁ out₁ size₁
-      → Played text state₁ values₁ line₁ kept₁ parts outs state₂ values₂ line₂ kept₂
-      → Played text state values line kept (take read part ∷ parts) (take size₁ out₁ ∷ outs) state₂ values₂ line₂ kept₂
+pub data Played : Lent → List ℕ → ℕ → List (List ℕ) → List (List ℕ) → Lent → List ℕ → ℕ → Type 0 where
+  none : {x : Lent} {line : List ℕ} {kept : ℕ} → Played x line kept [] [] x line kept
+  then : {x x₁ x₂ : Lent} {line part out line₁ out₁ line₂ : List ℕ} {kept read kept₁ size₁ kept₂ : ℕ} {parts outs : List (List ℕ)}
+      → Feeds x line kept part out read x₁ line₁ kept₁ out₁ size₁ → Played x₁ line₁ kept₁ parts outs x₂ line₂ kept₂
+      → Played x line kept (take read part ∷ parts) (take size₁ out₁ ∷ outs) x₂ line₂ kept₂
 
-all-fed : {text state values line state′ values′ line′ : List ℕ} {most kept kept′ : ℕ} {parts outs : List (List ℕ)} → length line ≡ most
-    → Played text state values line kept parts outs state′ values′ line′ kept′
-    → Fed (onLent text) most (lent state values) (take kept line) parts outs (lent state′ values′) (take kept′ line′)
+all-fed : {x y : Lent} {line line′ : List ℕ} {most kept kept′ : ℕ} {parts outs : List (List ℕ)} → length line ≡ most
+    → Played x line kept parts outs y line′ kept′ → Fed onLent most x (take kept line) parts outs y (take kept′ line′)
 all-fed e none = Parts.none
-all-fed {text} {state} {values} {line} {kept = kept} e (then {part = part} {read = read} f p) =
+all-fed {x} {line = line} {kept = kept} e (then {part = part} {read = read} f p) =
     Parts.then
-    (ap (λ (n : ℕ). fed (onLent text) n (record { out = []; machine = lent state values; line = take kept line }) (take read part)) (sym e) ∙ f .feeds .reaches)
+    (ap (λ (n : ℕ). fed onLent n (record { out = []; machine = x; line = take kept line }) (take read part)) (sym e) ∙ f .feeds .reaches)
     (all-fed (f .feeds .same ∙ e) p)
 
 -- What is written for the parts and at the end is what the lent machine prints for the whole input.
-pub parts-print : {text state values line state′ values′ line′ : List ℕ} {kept′ : ℕ} {parts outs : List (List ℕ)} → 61 ≤ length line
-    → Played text state values line 0 parts outs state′ values′ line′ kept′
-    → flatten outs ++ ended (onLent text) (lent state′ values′) (take kept′ line′) ≡ printedFor (onLent text) (lent state values) (flatten parts)
-parts-print {text} {line = line} h p = whatever-the-parts (onLent text) (length line) (lent-front-only text (length line) h) (all-fed refl p)
+pub parts-print : {x y : Lent} {line line′ : List ℕ} {kept′ : ℕ} {parts outs : List (List ℕ)} → 61 ≤ length line → Played x line 0 parts outs y line′ kept′
+    → flatten outs ++ ended onLent y (take kept′ line′) ≡ printedFor onLent x (flatten parts)
+parts-print {line = line} h p = whatever-the-parts onLent (length line) (lent-front-only (length line) h) (all-fed refl p)
 
 -- ---- a rehearsal
 
@@ -53,41 +51,39 @@ printed-front : {run list list′ : List ℕ} {size : ℕ} → Printed run list 
 printed-front {run} {list} {list′} {size} p h = ap (take size) (p .bytes ∙ over-fits run list h) ∙ take-at run (drop (length run) list) size (sym (p .count))
 
 -- A refused text prints its line, whatever the calls.
-pub refused-prints : {text list words values state out out′ : List ℕ} {size : ℕ} → refusalMost ≤ length out
-    → Prepares text list words out (Refused size) values state out′
-    → (calls : List ℕ) → take size out′ ≡ rehearsed text calls
+pub refused-prints : {x y : Lent} {out out′ : List ℕ} {size : ℕ} → refusalMost ≤ length out → Prepares x out (Refused size) y out′
+    → (calls : List ℕ) → take size out′ ≡ rehearsed (x .text) calls
 unfolding rehearsed
-refused-prints {text} {list} {words} {values} {state} {out} {out′} {size} long p calls = go (read text) (p .by-reading)
+refused-prints {x} {y} {out} {out′} {size} long p calls = go (read (x .text)) (p .by-reading)
   where
-    go : (r : Reading) → PreparesOn text list words out r (Refused size) values state out′ → take size out′ ≡ rehearsedOn r calls
+    go : (r : Reading) → PreparesOn x out r (Refused size) y out′ → take size out′ ≡ rehearsedOn r calls
     go (refused fault line) h = printed-front (h .0) (omega (arith, refusal-few fault line))
     go (accepted l) h = absurd h
 
 -- What the lent machine prints from the start of a rehearsal on.
-pub ready-prints : {text list words values state out out′ : List ℕ} {count : ℕ} → Prepares text list words out (Ready count) values state out′
-    → (calls : List ℕ) → printedFor (onLent text) (lent state (take count values)) calls ≡ rehearsed text calls
+pub ready-prints : {x y : Lent} {out out′ : List ℕ} {count : ℕ} → Prepares x out (Ready count) y out′
+    → (calls : List ℕ) → printedFor onLent (withFirst count y) calls ≡ rehearsed (x .text) calls
 unfolding rehearsed
-ready-prints {text} {list} {words} {values} {state} {out} {out′} {count} p calls = go (read text) (p .by-reading)
+ready-prints {x} {y} {out} {out′} {count} p calls = go (read (x .text)) (p .by-reading)
   where
-    first : List ℕ
-    first = take count values
+    first : Lent
+    first = withFirst count y
 
-    go : (r : Reading) → PreparesOn text list words out r (Ready count) values state out′ → printedFor (onLent text) (lent state first) calls ≡ rehearsedOn r calls
+    go : (r : Reading) → PreparesOn x out r (Ready count) y out′ → printedFor onLent first calls ≡ rehearsedOn r calls
     go (refused fault line) h = absurd h
     go (accepted l) h =
         let q = program l in
-        lent-prints text q (lent state first) (fresh (service q) first) calls (fresh-rep text state first q (h .0 .started .fresh))
+        lent-prints q first (fresh (service q) (first .values)) calls (fresh-rep first q (h .0 .started .fresh))
         ∙ ap (λ (v : List ℕ). printedFor (onProgram q) (fresh (service q) v) calls) (h .0 .started .starting)
 
 -- `prepare`, `feed` for each part, and `finish`, each on what the one before left: the parts that were read, and all that was written.
 pub data Rehearses (text : List ℕ) : List (List ℕ) → List ℕ → Type 0 where
-  refusal : {list words values state out out′ : List ℕ} {size : ℕ} {parts : List (List ℕ)} → refusalMost ≤ length out
-      → Prepares text list words out (Refused size) values state out′
-      → Rehearses text parts (take size out′)
-  play : {list words values state out out₁ line state′ values′ line′ out₂ out₃ : List ℕ} {count kept size : ℕ} {parts outs : List (List ℕ)}
-      → Prepares text list words out (Ready count) values state out₁
-      → 61 ≤ length line → Played text state (take count values) line 0 parts outs state′ values′ line′ kept
-      → endMost ≤ length out₂ → Finishes text state′ values′ line′ kept out₂ size out₃
+  refusal : {list words out out′ : List ℕ} {y : Lent} {size : ℕ} {parts : List (List ℕ)} → refusalMost ≤ length out
+      → Prepares (lending text words list) out (Refused size) y out′ → Rehearses text parts (take size out′)
+  play : {list words out out₁ line line′ out₂ out₃ : List ℕ} {y z : Lent} {count kept size : ℕ} {parts outs : List (List ℕ)}
+      → Prepares (lending text words list) out (Ready count) y out₁
+      → 61 ≤ length line → Played (withFirst count y) line 0 parts outs z line′ kept
+      → endMost ≤ length out₂ → Finishes z line′ kept out₂ size out₃
       → Rehearses text parts (flatten outs ++ take size out₃)
 
 -- Readings, P10: "What it prints is one definition of the two inputs, whatever the parts".

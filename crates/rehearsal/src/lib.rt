@@ -7,6 +7,7 @@ ghost use mathlib.Core.Path.{_≡_};
 ghost use lib.ListN.{length, take};
 ghost use Rattle.layout.specs.Layout.{stateWords, valuesMost};
 ghost use Rattle.model.specs.Rehearsal.{unended};
+ghost use Rattle.machine_words.specs.Calls.{lending};
 ghost use Rattle.output.specs.Append.{Appended};
 ghost use Rattle.rehearsal.specs.Feeds.{widest, Keeps, Advances, FeedsAll, Feeds, Finishes};
 ghost use Rattle.rehearsal.specs.Ready.{StartsOn, Prepares};
@@ -38,7 +39,7 @@ pub struct Fed {
 // Starts the machine on an accepted text's starting values, where the list has room for just these.
 fn start_on(text: &[u8], values: &mut [u32], state: &mut [u32])
     requires { ⌜ stateWords ≤ length (now state) ⌝ }
-    ensures { λ _. ⌜ StartsOn (now (text .entry)) (now (values .entry)) (now (state .entry)) (now (values .exit)) (now (state .exit)) ⌝ }
+    ensures { λ _. ⌜ StartsOn (lending (now (text .entry)) (now (state .entry)) (now (values .entry))) (lending (now (text .entry)) (now (state .exit)) (now (values .exit))) ⌝ }
 {
     cishmolaq::starting_values(text, values);
     cishmolaq::start(text, values, state);
@@ -48,7 +49,8 @@ fn start_on(text: &[u8], values: &mut [u32], state: &mut [u32])
 // the first of the lent values.
 pub fn prepare(text: &[u8], values: &mut [u32], state: &mut [u32], out: &mut [u8]) -> Prepared
     requires { ⌜ (valuesMost ≤ length (now values)) × (stateWords ≤ length (now state)) ⌝ }
-    ensures { λ r. ⌜ Prepares (now (text .entry)) (now (values .entry)) (now (state .entry)) (now (out .entry)) r (now (values .exit)) (now (state .exit)) (now (out .exit)) ⌝ }
+    ensures { λ r. ⌜ Prepares (lending (now (text .entry)) (now (state .entry)) (now (values .entry))) (now (out .entry))
+        r (lending (now (text .entry)) (now (state .exit)) (now (values .exit))) (now (out .exit)) ⌝ }
 {
     let mut tables = [0u32; layout::TABLE_WORDS];
     let verdict = reader::read_text(text, &mut tables);
@@ -89,7 +91,8 @@ fn take_byte(
     byte: u8,
 ) -> Reach
     requires { ⌜ (kept ≤ length (now line)) × (size + widest ≤ length (now out)) ⌝ }
-    ensures { λ r. ⌜ Advances (now (text .entry)) (now (state .entry)) (now (values .entry)) (now (line .entry)) kept (now (out .entry)) size byte (now (state .exit)) (now (values .exit)) (now (line .exit)) (r .kept) (now (out .exit)) (r .size) ⌝ }
+    ensures { λ r. ⌜ Advances (lending (now (text .entry)) (now (state .entry)) (now (values .entry))) (now (line .entry)) kept (now (out .entry)) size byte
+        (lending (now (text .entry)) (now (state .exit)) (now (values .exit))) (now (line .exit)) (r .kept) (now (out .exit)) (r .size) ⌝ }
 {
     if byte == LINE_FEED {
         let end = call_lines::answer_line(text, state, values, &line[..kept], out, size);
@@ -111,7 +114,8 @@ fn feed_all(
     out: &mut [u8],
 ) -> Reach
     requires { ⌜ (kept ≤ length (now line)) × (widest * length (now part) ≤ length (now out)) ⌝ }
-    ensures { λ r. ⌜ FeedsAll (now (text .entry)) (now (state .entry)) (now (values .entry)) (now (line .entry)) kept (now (part .entry)) (now (out .entry)) (now (state .exit)) (now (values .exit)) (now (line .exit)) (r .kept) (now (out .exit)) (r .size) ⌝ }
+    ensures { λ r. ⌜ FeedsAll (lending (now (text .entry)) (now (state .entry)) (now (values .entry))) (now (line .entry)) kept (now (part .entry)) (now (out .entry))
+        (lending (now (text .entry)) (now (state .exit)) (now (values .exit))) (now (line .exit)) (r .kept) (now (out .exit)) (r .size) ⌝ }
 {
     let mut begun = kept;
     let mut size = 0;
@@ -143,7 +147,8 @@ pub fn feed(
     part: &[u8],
     out: &mut [u8],
 ) -> Fed
-    ensures { λ r. ⌜ Feeds (now (text .entry)) (now (state .entry)) (now (values .entry)) (now (line .entry)) kept (now (part .entry)) (now (out .entry)) (r .read) (now (state .exit)) (now (values .exit)) (now (line .exit)) (r .kept) (now (out .exit)) (r .size) ⌝ }
+    ensures { λ r. ⌜ Feeds (lending (now (text .entry)) (now (state .entry)) (now (values .entry))) (now (line .entry)) kept (now (part .entry)) (now (out .entry)) (r .read)
+        (lending (now (text .entry)) (now (state .exit)) (now (values .exit))) (now (line .exit)) (r .kept) (now (out .exit)) (r .size) ⌝ }
 {
     let read = least(part.len(), out.len() / WIDEST);
     let begun = least(kept, line.len());
@@ -174,7 +179,7 @@ pub fn finish(
     kept: usize,
     out: &mut [u8],
 ) -> usize
-    ensures { λ r. ⌜ Finishes (now (text .entry)) (now (state .entry)) (now (values .entry)) (now (line .entry)) kept (now (out .entry)) r (now (out .exit)) ⌝ }
+    ensures { λ r. ⌜ Finishes (lending (now (text .entry)) (now (state .entry)) (now (values .entry))) (now (line .entry)) kept (now (out .entry)) r (now (out .exit)) ⌝ }
 {
     let at = put_unended(line, kept, out);
     call_lines::put_objects(text, state, values, out, at)

@@ -12,7 +12,7 @@ use Rattle.model.specs.Course.{course}
 use Rattle.laws.specs.Basics.{All}
 use Rattle.twophase.specs.Claims.{Right, both, putBackAll, Serial, Moment}
 use Rattle.twophase.specs.Theorem as Theory
-use Rattle.theory.specs.VectorLaws.{Compiled, program-compiled}
+use Rattle.vector_theory.specs.VectorLaws.{Compiled, program-compiled}
 use Rattle.theory.specs.ServiceLaws.{laws}
 
 -- Machine and course run side by side are the machine's list of calls, and the course fed its answers.

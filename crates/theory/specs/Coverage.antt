@@ -12,7 +12,7 @@ use Rattle.model.specs.Vector.{Program, inStatement}
 use Rattle.model.specs.Message.{Message, classOf, visited, sizeOf, Activation, Run, opened, visit, begun}
 use Rattle.laws.specs.Lists.{flatMap-in}
 use Rattle.laws.specs.Modes.{Le}
-use Rattle.theory.specs.VectorLaws.{root, bodyAt, statement-within, Compiled}
+use Rattle.vector_theory.specs.VectorLaws.{root, bodyAt, statement-within, Compiled}
 use Rattle.theory.specs.Places.{fieldPlace}
 use Rattle.theory.specs.Footprint.{Visits, modeAt}
 

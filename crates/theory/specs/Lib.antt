@@ -1,8 +1,3 @@
-pub mod ExampleTexts
-pub mod Examples
-pub mod Reachability
-pub mod Lawful
-pub mod VectorLaws
 pub mod Places
 pub mod Footprint
 pub mod Coverage
@@ -17,11 +12,3 @@ pub mod ServiceLaws
 pub mod CommitOrder
 pub mod Waiting
 pub mod Holding
-pub mod Pass
-pub mod Accepted
-pub mod Copies
-pub mod Heirs
-pub mod Ahead
-pub mod Named
-pub mod NamedLines
-pub mod NamedRuns

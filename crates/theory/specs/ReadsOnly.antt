@@ -15,7 +15,7 @@ use Rattle.model.specs.Vector.{Program, inExpression, inAction, inGuard, inStat
 use Rattle.model.specs.Message.{Message, classOf, placeOf, valueAt, look, idle, storeAt, Activation, Run, onward, withRest, replied, holds, called, perform, guarded, inBody, onObject, limited, turn}
 use Rattle.laws.specs.Lists.{same-refl}
 use Rattle.laws.specs.Modes.{le-left, le-right}
-use Rattle.theory.specs.VectorLaws.{Compiled}
+use Rattle.vector_theory.specs.VectorLaws.{Compiled}
 use Rattle.theory.specs.Places.{fieldPlace, by-place}
 use Rattle.theory.specs.Footprint.{Visits, Agree}
 use Rattle.theory.specs.Coverage.{Covered, CoveredOn, Of, covered-within}

@@ -3,8 +3,8 @@ use Rattle.model.specs.Library.{Library, Resolution}
 use Rattle.model.specs.Vector.{Program, programBy, program}
 use Rattle.model.specs.Machine.{service}
 use Rattle.twophase.specs.Laws.{Laws}
-use Rattle.theory.specs.Lawful.{Lawful}
-use Rattle.theory.specs.VectorLaws.{Compiled, programBy-compiled, program-compiled}
+use Rattle.vector_theory.specs.Lawful.{Lawful}
+use Rattle.vector_theory.specs.VectorLaws.{Compiled, programBy-compiled, program-compiled}
 use Rattle.theory.specs.Footprint.{May, Agree, Aside}
 use Rattle.theory.specs.Coverage.{Of, of-begun}
 use Rattle.theory.specs.ReadsOnly.{turn-local}

@@ -14,7 +14,7 @@ use Rattle.model.specs.Vector.{Program, inExpression, inAction, inGuard, inStat
 use Rattle.model.specs.Message.{Message, classOf, sizeOf, placeOf, look, Effect, idle, storeAt, Activation, Run, opened, visit, Outcome, goes, ends, stops, onward, withRest, withGot, replied, worth, holds, called, perform, guarded, plusReply, objectEnds, bodyEnds, inBody, onObject, limited, turn}
 use Rattle.laws.specs.Lists.{same-refl}
 use Rattle.laws.specs.Modes.{Le, le-refl, le-left, le-right, le-trans}
-use Rattle.theory.specs.VectorLaws.{bodyAt, Compiled}
+use Rattle.vector_theory.specs.VectorLaws.{bodyAt, Compiled}
 use Rattle.theory.specs.Places.{fieldPlace, by-place}
 use Rattle.theory.specs.Footprint.{Visits, modeAt, May}
 use Rattle.theory.specs.Coverage.{Covered, AllCovered, CoveredOn, Of, callee-covered, cons-covered, visit-of, covered-within}

@@ -8,7 +8,7 @@ use Rattle.model.specs.Vector.{Program}
 use Rattle.model.specs.Message.{Message, Run, turn}
 use Rattle.model.specs.Machine.{service}
 use Rattle.twophase.specs.Laws.{Part, start, more}
-use Rattle.theory.specs.VectorLaws.{Compiled}
+use Rattle.vector_theory.specs.VectorLaws.{Compiled}
 use Rattle.theory.specs.Footprint.{Agree}
 use Rattle.theory.specs.Coverage.{Of, of-begun}
 use Rattle.theory.specs.ReadsOnly.{turn-local}

@@ -7,7 +7,7 @@ use Rattle.model.specs.Vector.{Program, program}
 use Rattle.model.specs.Service.{fresh, startCourse}
 use Rattle.model.specs.Machine.{Call, service}
 use Rattle.twophase.specs.Waiting.{Promised, line-kept}
-use Rattle.theory.specs.VectorLaws.{Compiled, program-compiled}
+use Rattle.vector_theory.specs.VectorLaws.{Compiled, program-compiled}
 use Rattle.theory.specs.ServiceLaws.{laws}
 use Rattle.theory.specs.CommitOrder.{left, both-is}
 

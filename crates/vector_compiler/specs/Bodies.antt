@@ -18,7 +18,7 @@ use Rattle.catalog.specs.Bodies.{boundsOf}
 use Rattle.catalog.specs.declared.body.Body.the-variants.{Found, Missing}
 use Rattle.vector_direct.specs.Fields.{map-upto}
 use Rattle.vector_direct.specs.Lines.{statementOf}
-use Rattle.vector_compiler.specs.Lists.{run-upto}
+use Rattle.vector_commute.specs.Lists.{run-upto}
 use Rattle.vector_compiler.specs.Nodes.{nodeAt, bodyOfNode}
 
 -- Statement i of a run that begins with the text's statement `first`.

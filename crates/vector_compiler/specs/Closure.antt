@@ -17,18 +17,18 @@ use Rattle.model.specs.Graph.{Node, Star, Reached}
 use Rattle.model.specs.Vector.{inBody, joinedVector, transitive, vectorsOf}
 use Rattle.laws.specs.Lists.{in-upto, map-at}
 use Rattle.laws.specs.Modes.{Le, null-le, le-antisym, joins-upper, joins-least}
-use Rattle.theory.specs.VectorLaws.{root, bodyAt, transitiveMode, reached-within, mode-is-join}
+use Rattle.vector_theory.specs.VectorLaws.{root, bodyAt, transitiveMode, reached-within, mode-is-join}
 use Rattle.catalog.specs.View.{nameOf, classWord, classCount, memberCount, memberAt, membersOf, classOf, libraryOf}
 use Rattle.laws.specs.Upto.{length-upto}
 use Rattle.catalog.specs.Look.{shownCount, class-at, member-at, member-count, shown-members, shown-le}
 use Rattle.vector_direct.specs.declared.Vector.{Vector}
 use Rattle.vector_direct.specs.Fields.{fieldsIn}
 use Rattle.vector_direct.specs.Says.{Says, says-nothing, says-same}
-use Rattle.vector_compiler.specs.Lists.{upto-in}
+use Rattle.vector_commute.specs.Lists.{upto-in}
 use Rattle.vector_compiler.specs.Nodes.{nodeAt, bodyOfNode, Calls, back, forth, star-below}
 use Rattle.vector_compiler.specs.Marks.{touch, Partly, Closed, partly-root}
 use Rattle.vector_compiler.specs.Joining.{joinedModes}
-use Rattle.vector_compiler.specs.Commuting.{Masks, says-masks}
+use Rattle.vector_commute.specs.Commuting.{Masks, says-masks}
 
 module _ (text ws : List ℕ) (c : ℕ) where
   abbrev l : Library

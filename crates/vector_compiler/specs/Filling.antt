@@ -21,9 +21,9 @@ use Rattle.laws.specs.Upto.{upto-same}
 use Rattle.catalog.specs.Look.{class-at, member-count}
 use Rattle.vector_direct.specs.declared.Vector.{Vector}
 use Rattle.vector_direct.specs.Fields.{map-upto}
-use Rattle.vector_compiler.specs.Lists.{listed}
+use Rattle.vector_commute.specs.Lists.{listed}
 use Rattle.vector_compiler.specs.Closure.{VectorFound, vector-length}
-use Rattle.vector_compiler.specs.Commuting.{Masks, modeMask, read-mask, write-mask, add-mask, stored-masks, apart, apart-commute}
+use Rattle.vector_commute.specs.Commuting.{Masks, modeMask, read-mask, write-mask, add-mask, stored-masks, apart, apart-commute}
 use Rattle.vector_compiler.specs.Filled.{Within, OnlyMasks, within-none, within-set, within-then, masks-none, masks-then, MasksOf, masks-of-class, same-classes, same-methods, same-library, vectorsIn, MethodMasks, Filled}
 
 -- ---- the loop that stores the masks of each method's modes

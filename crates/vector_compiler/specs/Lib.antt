@@ -1,11 +1,8 @@
-pub mod Lists
 pub mod Nodes
 pub mod Bodies
 pub mod Marks
 pub mod Meeting
 pub mod Joining
-pub mod Ranks
-pub mod Commuting
 pub mod Closure
 pub mod Filled
 pub mod Filling

@@ -9,7 +9,7 @@ use Rattle.laws.specs.Lists.{in-upto}
 use Rattle.catalog.specs.View.{partOf, statementWord, libraryOf}
 use Rattle.vector_direct.specs.Calls.{numberIn}
 use Rattle.vector_direct.specs.Lines.{statementOf}
-use Rattle.vector_compiler.specs.Lists.{upto-in}
+use Rattle.vector_commute.specs.Lists.{upto-in}
 use Rattle.vector_compiler.specs.Nodes.{bodyOfNode, Calls}
 use Rattle.vector_compiler.specs.Bodies.{statementAt, line-says-it}
 use Rattle.vector_compiler.specs.Marks.{touch, touched, touched-more, CallsMet}

@@ -16,7 +16,7 @@ use Rattle.model.specs.Form.{Statement}
 use Rattle.model.specs.Library.{Library, Placed, asRecorded, fieldNames}
 use Rattle.model.specs.Graph.{Node, callee}
 use Rattle.model.specs.Vector.{inBody}
-use Rattle.theory.specs.VectorLaws.{bodyAt}
+use Rattle.vector_theory.specs.VectorLaws.{bodyAt}
 use Rattle.catalog.specs.View.{classWord, statementWord, nameOf, placedOf, libraryOf}
 use Rattle.laws.specs.Upto.{upto-same}
 use Rattle.catalog.specs.Store.{statement-same}

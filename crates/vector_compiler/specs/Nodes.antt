@@ -14,8 +14,8 @@ use Rattle.model.specs.Library.{Library, Member, noMember, classAt, memberPlace
 use Rattle.model.specs.Graph.{Node, callee, calls, successors, Star, here, further, Reached}
 use Rattle.laws.specs.Lists.{map-at, flatMap-in, in-flatMap}
 use Rattle.laws.specs.Lookup.{place-known, name-at}
-use Rattle.theory.specs.Lawful.{asRecorded-lawful}
-use Rattle.theory.specs.VectorLaws.{bodyAt}
+use Rattle.vector_theory.specs.Lawful.{asRecorded-lawful}
+use Rattle.vector_theory.specs.VectorLaws.{bodyAt}
 use Rattle.catalog.specs.View.{classWord, classCount, memberAt, libraryOf, nameOf}
 use Rattle.laws.specs.Upto.{length-upto, getD-upto}
 use Rattle.catalog.specs.Look.{shownCount, shown-members, shown-le, shown-class}

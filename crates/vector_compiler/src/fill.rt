@@ -1,87 +1,21 @@
 // Writes the masks of every method into the tables: three of its transitive vector, and one of the methods that it commutes
 // with.
 use super::closure::vector_of;
+use vector_commute::commuting;
+use vector_commute::mode_mask;
 use vector_direct::Vector;
 ghost use Prim.Native.Nat.{_+_, _*_, _<_};
 ghost use mathlib.Core.Path.{_≡_};
-ghost use lib.ListN.{length};
 ghost use Rattle.layout.specs.Layout.{classWords, classesAt};
-ghost use Rattle.model.specs.Mode.{compatible};
 ghost use Rattle.catalog.specs.View.{memberCount};
-ghost use Rattle.vector_compiler.specs.Ranks.{pairApart, rowApart};
-ghost use Rattle.vector_compiler.specs.Commuting.{modeMask, apart};
 ghost use Rattle.vector_compiler.specs.Filled.{Filled};
 ghost use Rattle.vector_compiler.specs.Filling.{withVector, stored, commutingMask, ModesTo, CommutingTo, ClassFilled};
-
-// Table 1 of the paper: which modes of a field are compatible, by rank: Null, Read, Add, Write.
-const COMPATIBLE: [[bool; 4]; 4] = [
-    [true, true, true, true],
-    [true, true, false, false],
-    [true, false, true, false],
-    [true, false, false, false],
-];
 
 // The place of a method's mask.
 fn mask_place(class: u32, row: u32, method: u32) -> usize
     ensures { λ r. ⌜ r ≡ classesAt + (class * classWords + (row + method)) ⌝ }
 {
     layout::CLASSES_AT + (class as usize * layout::CLASS_WORDS + (row as usize + method as usize))
-}
-
-// The fields in the mode of a rank, by whether it depends on them and whether it changes them. A number that is no rank has none.
-fn mode_mask(vector: Vector, rank: usize) -> u32
-    ensures { λ r. ⌜ r ≡ modeMask vector rank ⌝ }
-{
-    let depends = vector.depends;
-    let changes = vector.changes;
-    match rank {
-        0 => !(depends | changes),
-        1 => depends & !changes,
-        2 => changes & !depends,
-        3 => depends & changes,
-        _ => 0,
-    }
-}
-
-// Whether the modes of these ranks are compatible, or no field is in the one for the first method and in the other for the second.
-fn pair_apart(a: Vector, b: Vector, i: usize, j: usize) -> bool
-    requires { ⌜ (i < length compatible) × (j < length compatible) ⌝ }
-    ensures { λ r. ⌜ r ≡ pairApart compatible (modeMask a) (modeMask b) i j ⌝ }
-{
-    if COMPATIBLE[i][j] {
-        true
-    } else {
-        mode_mask(a, i) & mode_mask(b, j) == 0
-    }
-}
-
-// The same for every mode of the second method.
-fn row_apart(a: Vector, b: Vector, i: usize) -> bool
-    requires { ⌜ i < length compatible ⌝ }
-    ensures { λ r. ⌜ r ≡ rowApart compatible (modeMask a) (modeMask b) i ⌝ }
-{
-    let mut j = 0;
-    while j < COMPATIBLE.len() {
-        if !pair_apart(a, b, i, j) {
-            return false;
-        }
-        j += 1;
-    }
-    true
-}
-
-// Whether two methods commute: no pair of modes that the table forbids meets at a field.
-fn commuting(a: Vector, b: Vector) -> bool
-    ensures { λ r. ⌜ r ≡ apart a b ⌝ }
-{
-    let mut i = 0;
-    while i < COMPATIBLE.len() {
-        if !row_apart(a, b, i) {
-            return false;
-        }
-        i += 1;
-    }
-    true
 }
 
 // Stores the masks of Read, Write and Add of a vector.

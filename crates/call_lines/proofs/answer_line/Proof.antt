@@ -9,6 +9,7 @@ use Rattle.model.specs.Rehearsal.{callLine}
 use Rattle.text_lex.specs.Number.{said}
 use Rattle.text_lex.specs.Scan.{isByte, before-le}
 use Rattle.text_lex.specs.Piece.{wordsAfter, behind, none-after, cons-after}
+use Rattle.machine_words.specs.Calls.{lending}
 use Rattle.call_lines.specs.Says.{says-none, says-as}
 use Rattle.call_lines.specs.Forms.{slotThen, line-slot, slot-more}
 use borrow.Author.Needs.{needs}
@@ -24,7 +25,7 @@ returns c =
     let s = a .line .now in
     let e = c .before .before .before .before .before .before .before .before .before .before .before .before .before .before .before .before .before .before .word-end in
     let f = c .before .before .before .before .before .before .before .before .before .before .before .word-end-after in
-    says-as (a .text .now) (a .state .now) (a .values .now) (callLine (words s))
+    says-as (lending (a .text .now) (a .state .now) (a .values .now)) (callLine (words s))
     (line-slot s (e .result) (e .ensures) (c .before .before .before .before .before .before .before .before .before .before .before .before .before .before .before .before .word-after .ensures) (sym (ap said (c .before .before .before .before .before .before .before .before .before .before .before .before .before .number .given .1)) ∙ c .before .before .before .before .before .before .before .before .before .before .before .before .before .before .before .number-of .ensures)
     ∙ ap (slotThen (take (e .result) s) (some (c .before .before .before .before .before .before .before .before .before .before .before .before .before .number .given .0 .0))) (sym (behind 32 s (e .result) (f .result) (f .ensures) refl) ∙ none-after 32 s (f .result) (c .before .before .before .before .before .before .before .before .before .before .if1 .taken)))
     (c .before .before .before .before .before .before .slot-call .ensures)
@@ -38,7 +39,7 @@ returns-2 c =
     let k = take (e .result) s in
     let n = c .before .before .before .before .before .before .before .before .before .before .before .number .given .0 .0 in
     let b = behind 32 s (e .result) (f .result) (f .ensures) refl in
-    says-as (a .text .now) (a .state .now) (a .values .now) (callLine (words s))
+    says-as (lending (a .text .now) (a .state .now) (a .values .now)) (callLine (words s))
     (line-slot s (e .result) (e .ensures) (c .before .before .before .before .before .before .before .before .before .before .before .before .before .before .word-after .ensures) (sym (ap said (c .before .before .before .before .before .before .before .before .before .before .before .number .given .1)) ∙ c .before .before .before .before .before .before .before .before .before .before .before .before .before .number-of .ensures)
     ∙ ap (slotThen k (some n)) (sym b)
     ∙ slot-more k n (wordsAfter (drop (f .result) s)) (cons-after 32 s (f .result) (c .before .before .before .before .before .before .before .before .if1 .left)))
@@ -49,7 +50,7 @@ returns-3 c =
     let a = c .before .before .before .before .before .before .before .before .before .before .before .before .before .before .before .before .args in
     let s = a .line .now in
     let e = c .before .before .before .before .before .before .before .before .before .before .word-end in
-    says-none (a .text .now) (a .state .now) (a .values .now) (callLine (words s)) (line-slot s (e .result) (e .ensures) (c .before .before .before .before .before .before .before .before .word-after .ensures) (sym (ap said (c .before .before .before .before .before .enum-told .given .1)) ∙ c .before .before .before .before .before .before .before .number-of .ensures)) (c .before .before .put-bytes .ensures)
+    says-none (lending (a .text .now) (a .state .now) (a .values .now)) (callLine (words s)) (line-slot s (e .result) (e .ensures) (c .before .before .before .before .before .before .before .before .word-after .ensures) (sym (ap said (c .before .before .before .before .before .enum-told .given .1)) ∙ c .before .before .before .before .before .before .before .number-of .ensures)) (c .before .before .put-bytes .ensures)
 
 pub answer-line-spec : {M : Type 1} → statement M
 answer-line-spec =

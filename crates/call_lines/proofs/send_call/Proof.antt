@@ -1,6 +1,7 @@
 -- `send_call` meets its contract: the keyword is compared with each in turn.
 use mathlib.Core.Path.{sym, _∙_}
 use Rattle.model.specs.Rehearsal.{atObject, atClass, atDomain, sendLine, sendForm}
+use Rattle.machine_words.specs.Calls.{lending}
 use Rattle.call_lines.specs.Says.{says-none, says-some}
 use Rattle.call_lines.specs.Forms.{send-object, send-class, send-domain, send-none}
 use borrow.Author.Needs.{needs}
@@ -10,7 +11,7 @@ use Rattle.call_lines.proofs.send_call.Tie as tie
 returns : tie.Need-returns
 returns c =
     let a = c .before .before .before .before .before .before .before .before .before .before .before .before .before .before .before .before .before .args in
-    says-some (a .text .now) (a .state .now) (a .values .now) (sendForm (a .keyword .now) (a .slot) (a .name .now) (a .method .now) (a .argument))
+    says-some (lending (a .text .now) (a .state .now) (a .values .now)) (sendForm (a .keyword .now) (a .slot) (a .name .now) (a .method .now) (a .argument))
     (sendLine (a .slot) (atObject (a .name .now)) (a .method .now) (a .argument))
     (send-object (a .keyword .now) (a .slot) (a .name .now) (a .method .now) (a .argument) (sym (c .before .before .before .before .before .before .before .before .same .ensures) ∙ c .before .before .before .before .before .before .before .if1 .taken))
     (c .before .before .before .before .send-to-object .ensures)
@@ -18,7 +19,7 @@ returns c =
 returns-2 : tie.Need-returns-2
 returns-2 c =
     let a = c .before .before .before .before .before .before .before .before .before .before .before .before .before .before .before .before .before .before .before .before .args in
-    says-some (a .text .now) (a .state .now) (a .values .now) (sendForm (a .keyword .now) (a .slot) (a .name .now) (a .method .now) (a .argument))
+    says-some (lending (a .text .now) (a .state .now) (a .values .now)) (sendForm (a .keyword .now) (a .slot) (a .name .now) (a .method .now) (a .argument))
     (sendLine (a .slot) (atClass (a .name .now)) (a .method .now) (a .argument))
     (send-class (a .keyword .now) (a .slot) (a .name .now) (a .method .now) (a .argument) (sym (c .before .before .before .before .before .before .before .before .before .before .before .same .ensures) ∙ c .before .before .before .before .before .before .before .before .before .before .if1 .left) (sym (c .before .before .before .before .before .before .before .before .same2 .ensures) ∙ c .before .before .before .before .before .before .before .if2 .taken))
     (c .before .before .before .before .send-to-class .ensures)
@@ -26,7 +27,7 @@ returns-2 c =
 returns-3 : tie.Need-returns-3
 returns-3 c =
     let a = c .before .before .before .before .before .before .before .before .before .before .before .before .before .before .before .before .before .before .before .before .before .before .before .args in
-    says-some (a .text .now) (a .state .now) (a .values .now) (sendForm (a .keyword .now) (a .slot) (a .name .now) (a .method .now) (a .argument))
+    says-some (lending (a .text .now) (a .state .now) (a .values .now)) (sendForm (a .keyword .now) (a .slot) (a .name .now) (a .method .now) (a .argument))
     (sendLine (a .slot) (atDomain (a .name .now)) (a .method .now) (a .argument))
     (send-domain (a .keyword .now) (a .slot) (a .name .now) (a .method .now) (a .argument) (sym (c .before .before .before .before .before .before .before .before .before .before .before .before .before .before .same .ensures) ∙ c .before .before .before .before .before .before .before .before .before .before .before .before .before .if1 .left) (sym (c .before .before .before .before .before .before .before .before .before .before .before .same2 .ensures) ∙ c .before .before .before .before .before .before .before .before .before .before .if2 .left) (sym (c .before .before .before .before .before .before .before .before .same3 .ensures) ∙ c .before .before .before .before .before .before .before .if3 .taken))
     (c .before .before .before .before .send-to-domain .ensures)
@@ -34,7 +35,7 @@ returns-3 c =
 returns-4 : tie.Need-returns-4
 returns-4 c =
     let a = c .before .before .before .before .before .before .before .before .before .before .before .before .before .before .before .before .before .before .before .before .before .args in
-    says-none (a .text .now) (a .state .now) (a .values .now) (sendForm (a .keyword .now) (a .slot) (a .name .now) (a .method .now) (a .argument))
+    says-none (lending (a .text .now) (a .state .now) (a .values .now)) (sendForm (a .keyword .now) (a .slot) (a .name .now) (a .method .now) (a .argument))
     (send-none (a .keyword .now) (a .slot) (a .name .now) (a .method .now) (a .argument) (sym (c .before .before .before .before .before .before .before .before .before .before .before .before .same .ensures) ∙ c .before .before .before .before .before .before .before .before .before .before .before .if1 .left) (sym (c .before .before .before .before .before .before .before .before .before .same2 .ensures) ∙ c .before .before .before .before .before .before .before .before .if2 .left) (sym (c .before .before .before .before .before .before .same3 .ensures) ∙ c .before .before .before .before .before .if3 .left))
     (c .before .before .put-bytes .ensures)
 

@@ -4,6 +4,7 @@ use lib.ListN.{drop}
 use Rattle.text_lex.specs.Number.{numberOf, said}
 use Rattle.text_lex.specs.Tests.{_and_}
 use Rattle.text_lex.specs.Piece.{wordsAfter, first, behind, at-end}
+use Rattle.machine_words.specs.Calls.{lending}
 use Rattle.call_lines.specs.Says.{says-none, says-as}
 use Rattle.call_lines.specs.Forms.{sendAfter, send-found}
 use borrow.Author.Needs.{needs}
@@ -20,7 +21,7 @@ returns c =
     let b1 = behind 32 s (a .from) (e1 .result) (e1 .ensures) refl in
     let b2 = behind 32 s (e1 .result) (e2 .result) (e2 .ensures) b1 in
     let b3 = behind 32 s (e2 .result) (e3 .result) (e3 .ensures) b2 in
-    says-as (a .text .now) (a .state .now) (a .values .now) (sendAfter (a .keyword .now) (a .slot) (wordsAfter (drop (a .from) s)))
+    says-as (lending (a .text .now) (a .state .now) (a .values .now)) (sendAfter (a .keyword .now) (a .slot) (wordsAfter (drop (a .from) s)))
     (send-found (a .keyword .now) (a .slot) (wordsAfter (drop (a .from) s)) (c .before .before .before .before .before .before .before .before .before .before .before .before .before .before .before .before .before .before .before .word-after .ensures) (c .before .before .before .before .before .before .before .before .before .before .before .before .before .before .before .before .before .word-after2 .ensures ∙ ap first b1) (sym (c .before .before .before .before .before .before .before .if1 .taken) ∙ ((c .before .before .before .before .before .before .before .before .before .is-name .ensures) and (c .before .before .before .before .before .before .before .before .is-name2 .ensures) and at-end 32 s (e3 .result) b3)) (sym (ap said (c .before .before .before .before .before .before .before .before .before .before .before .number .given .1)) ∙ c .before .before .before .before .before .before .before .before .before .before .before .before .before .before .number-of .ensures ∙ ap numberOf (c .before .before .before .before .before .before .before .before .before .before .before .before .before .before .before .word-after3 .ensures ∙ ap first b2)))
     (c .before .before .before .before .send-call .ensures)
 
@@ -34,7 +35,7 @@ returns-2 c =
     let b1 = behind 32 s (a .from) (e1 .result) (e1 .ensures) refl in
     let b2 = behind 32 s (e1 .result) (e2 .result) (e2 .ensures) b1 in
     let b3 = behind 32 s (e2 .result) (e3 .result) (e3 .ensures) b2 in
-    says-none (a .text .now) (a .state .now) (a .values .now) (sendAfter (a .keyword .now) (a .slot) (wordsAfter (drop (a .from) s)))
+    says-none (lending (a .text .now) (a .state .now) (a .values .now)) (sendAfter (a .keyword .now) (a .slot) (wordsAfter (drop (a .from) s)))
     (send-found (a .keyword .now) (a .slot) (wordsAfter (drop (a .from) s)) (c .before .before .before .before .before .before .before .before .before .before .before .before .before .before .before .before .before .word-after .ensures) (c .before .before .before .before .before .before .before .before .before .before .before .before .before .before .before .word-after2 .ensures ∙ ap first b1) (sym (c .before .before .before .before .before .if1 .left) ∙ ((c .before .before .before .before .before .before .before .is-name .ensures) and (c .before .before .before .before .before .before .is-name2 .ensures) and at-end 32 s (e3 .result) b3)) (sym (ap said (c .before .before .before .before .before .before .before .before .before .number .given .1)) ∙ c .before .before .before .before .before .before .before .before .before .before .before .before .number-of .ensures ∙ ap numberOf (c .before .before .before .before .before .before .before .before .before .before .before .before .before .word-after3 .ensures ∙ ap first b2)))
     (c .before .before .put-bytes .ensures)
 
@@ -46,7 +47,7 @@ returns-3 c =
     let e2 = c .before .before .before .before .before .before .before .before .before .before .word-end-after2 in
     let b1 = behind 32 s (a .from) (e1 .result) (e1 .ensures) refl in
     let b2 = behind 32 s (e1 .result) (e2 .result) (e2 .ensures) b1 in
-    says-none (a .text .now) (a .state .now) (a .values .now) (sendAfter (a .keyword .now) (a .slot) (wordsAfter (drop (a .from) s)))
+    says-none (lending (a .text .now) (a .state .now) (a .values .now)) (sendAfter (a .keyword .now) (a .slot) (wordsAfter (drop (a .from) s)))
     (send-found (a .keyword .now) (a .slot) (wordsAfter (drop (a .from) s)) (c .before .before .before .before .before .before .before .before .before .before .before .before .before .word-after .ensures) (c .before .before .before .before .before .before .before .before .before .before .before .word-after2 .ensures ∙ ap first b1) refl (sym (ap said (c .before .before .before .before .before .enum-told .given .1)) ∙ c .before .before .before .before .before .before .before .before .number-of .ensures ∙ ap numberOf (c .before .before .before .before .before .before .before .before .before .word-after3 .ensures ∙ ap first b2)))
     (c .before .before .put-bytes2 .ensures)
 

@@ -5,7 +5,7 @@ use Rattle.cishmolaq.proofs.commit.Statement.{statement}
 use Rattle.cishmolaq.proofs.commit.Tie as tie
 
 returns : tie.Need-returns
-returns c = promised _ _ _ _ _ _ _ (c .before .before .commit .ensures)
+returns c = promised _ _ _ _ (c .before .before .commit .ensures)
 
 pub commit-spec : {M : Type 1} → statement M
 commit-spec = tie.close (tie.spec (λ c κs. search needs) (λ c. search needs) returns)

@@ -5,7 +5,7 @@ use Rattle.cishmolaq.proofs.send.Statement.{statement}
 use Rattle.cishmolaq.proofs.send.Tie as tie
 
 returns : tie.Need-returns
-returns c = promised _ _ _ _ _ _ _ (c .before .before .send .ensures)
+returns c = promised _ _ _ _ (c .before .before .send .ensures)
 
 pub send-spec : {M : Type 1} → statement M
 send-spec = tie.close (tie.spec (λ c κs. search needs) (λ c. search needs) returns)

@@ -1,4 +1,5 @@
 -- A refused text is refused with its fault, an accepted one is started on.
+use Rattle.machine_words.specs.Calls.{lending}
 use Rattle.cishmolaq.specs.Laws.{refused-by, accepted-by}
 use Rattle.cishmolaq.specs.Start.{start-refused}
 use borrow.Author.Needs.{needs}
@@ -9,7 +10,7 @@ returns : tie.Need-returns
 returns c =
     let r = c .before .before .before .before in
     let a = r .before .before .before .before .before .args in
-    start-refused (a .text .now) (a .values .now) (a .state .now) _ _ (refused-by (r .read-text .ensures) _ _ (c .before .verdict .given .1))
+    start-refused (lending (a .text .now) (a .state .now) (a .values .now)) _ _ (refused-by (r .read-text .ensures) _ _ (c .before .verdict .given .1))
 
 returns-2 : tie.Need-returns-2
 returns-2 c =

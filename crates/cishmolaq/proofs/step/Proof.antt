@@ -5,7 +5,7 @@ use Rattle.cishmolaq.proofs.step.Statement.{statement}
 use Rattle.cishmolaq.proofs.step.Tie as tie
 
 returns : tie.Need-returns
-returns c = promised _ _ _ _ _ _ _ (c .before .before .before .before .step .ensures)
+returns c = promised _ _ _ _ (c .before .before .before .before .step .ensures)
 
 pub step-spec : {M : Type 1} → statement M
 step-spec = tie.close (tie.spec (λ c κs. search needs) (λ c. search needs) (λ c. search needs) returns)

@@ -5,21 +5,21 @@ use Rattle.machine_checks.proofs.misfit.Statement.{statement}
 use Rattle.machine_checks.proofs.misfit.Tie as tie
 
 returns : tie.Need-returns
-returns c = misfit-short _ _ _ (c .if1 .taken)
+returns c = misfit-short _ (c .if1 .taken)
 
 returns-2 : tie.Need-returns-2
 returns-2 c =
     let n = c .before in
     let t = n .before in
     let m = t .before in
-    misfit-none _ _ _ (m .before .if1 .left) _ _ _ (m .get .ensures) (t .get2 .ensures) (n .get3 .ensures) (c .if2 .taken)
+    misfit-none _ (m .before .if1 .left) _ _ _ (m .get .ensures) (t .get2 .ensures) (n .get3 .ensures) (c .if2 .taken)
 
 returns-3 : tie.Need-returns-3
 returns-3 c =
     let n = c .before in
     let t = n .before in
     let m = t .before in
-    misfit-other _ _ _ (m .before .if1 .left) _ _ _ (m .get .ensures) (t .get2 .ensures) (n .get3 .ensures) (c .if2 .left)
+    misfit-other _ (m .before .if1 .left) _ _ _ (m .get .ensures) (t .get2 .ensures) (n .get3 .ensures) (c .if2 .left)
 
 pub misfit-spec : {M : Type 1} → statement M
 misfit-spec =

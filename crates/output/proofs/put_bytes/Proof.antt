@@ -20,6 +20,9 @@ abbrev μ-loop : tie.MeasureT-loop
 one-more : (bytes : List ℕ) (i : ℕ) → i + 1 ≤ length bytes → take i bytes ++ (getD bytes i 0 ∷ []) ≡ take (i + 1) bytes
 one-more bytes i h = rw (add-one, take-suc bytes i 0 (omega arith))
 
+loop-holds : tie.Need-loop-holds Inv-loop μ-loop
+loop-holds c = (omega arith, appended-none _ _)
+
 put-byte-requires : tie.Need-put-byte-requires Inv-loop μ-loop
 put-byte-requires c κs =
     let h = c .before .before .before in
@@ -47,7 +50,7 @@ put-bytes-spec =
     (tie.spec
     Inv-loop
     μ-loop
-    (λ c. (omega arith, appended-none _ _))
+    loop-holds
     (λ c. search needs)
     put-byte-requires
     (λ c. search needs)

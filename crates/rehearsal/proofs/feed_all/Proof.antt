@@ -3,6 +3,7 @@ use Prim.Native.Nat.{_*_, _-_, _≤_}
 use mathlib.Core.Path.{_≡_, refl, sym, _∙_}
 use native.Mathlib.Omega.{arith}
 use lib.ListN.{length, drop}
+use Rattle.machine_words.specs.Calls.{lending}
 use Rattle.call_lines.specs.Lent.{onLent}
 use Rattle.rehearsal.specs.Parts.{fed}
 use Rattle.rehearsal.specs.Feeds.{widest, reached}
@@ -14,8 +15,8 @@ abbrev Inv-loop : tie.InvT-loop
 Inv-loop text state₀ values₀ line₀ kept part out₀ begun₀ size₀ i₀ state values line out begun size i =
     (i ≤ length part) × (begun ≤ length line₀) × (size ≤ widest * i)
     × (length line ≡ length line₀) × (length out ≡ length out₀) × (length state ≡ length state₀) × (length values ≡ length values₀)
-    × (fed (onLent text) (length line₀) (reached state values line begun out size) (drop i part)
-    ≡ fed (onLent text) (length line₀) (reached state₀ values₀ line₀ kept out₀ 0) part)
+    × (fed onLent (length line₀) (reached (lending text state values) line begun out size) (drop i part)
+    ≡ fed onLent (length line₀) (reached (lending text state₀ values₀) line₀ kept out₀ 0) part)
 
 abbrev μ-loop : tie.MeasureT-loop
 μ-loop text state₀ values₀ line₀ kept part out₀ begun₀ size₀ i₀ state values line out begun size i =
@@ -40,7 +41,7 @@ loop-again c =
       omega arith,
       omega arith,
       omega arith,
-      fed-turn (a .text .now) (a .part .now) (h .loop .i) (length (a .line .now)) (omega arith) (h .loop .inv .3) f ∙ h .loop .inv .7,
+      fed-turn (a .part .now) (h .loop .i) (length (a .line .now)) (omega arith) (h .loop .inv .3) f ∙ h .loop .inv .7,
     )
 
 returns : tie.Need-returns Inv-loop μ-loop
@@ -48,7 +49,7 @@ returns c =
     let h = c .before in
     let a = h .before .before .before .before .before .before .before .args in
     record {
-      reaches = sym (h .loop .inv .7) ∙ fed-end (a .text .now) (length (a .line .now)) _ (a .part .now) (h .loop .i) (omega arith);
+      reaches = sym (h .loop .inv .7) ∙ fed-end (length (a .line .now)) _ (a .part .now) (h .loop .i) (omega arith);
       same = h .loop .inv .3;
       room = omega arith;
     }

@@ -1,6 +1,7 @@
 -- The line for an unfinished line is written first, then the objects' lines.
 use native.Mathlib.Omega.{arith}
 use lib.ListN.{take}
+use Rattle.machine_words.specs.Calls.{lending}
 use Rattle.rehearsal.specs.Room.{unended-few}
 use Rattle.rehearsal.specs.Laws.{finishes}
 use borrow.Author.Needs.{needs}
@@ -18,7 +19,7 @@ returns c =
     let o = c .before .before in
     let u = o .before .before .before .before in
     let a = u .before .before .before .before .before .before .before .args in
-    finishes (a .text .now) (a .state .now) (a .values .now) (a .line .now) (a .kept) (u .put-unended .ensures) (o .put-objects .ensures)
+    finishes (lending (a .text .now) (a .state .now) (a .values .now)) (a .line .now) (a .kept) (u .put-unended .ensures) (o .put-objects .ensures)
 
 pub finish-spec : {M : Type 1} → statement M
 finish-spec =

@@ -2,6 +2,7 @@
 use mathlib.Core.Path.{sym}
 use native.Mathlib.Omega.{arith}
 use lib.Seq.{length-take-le}
+use Rattle.machine_words.specs.Calls.{lending}
 use Rattle.cishmolaq.specs.Lines.{line-small}
 use Rattle.cishmolaq.specs.Laws.{refused-by, accepted-by}
 use Rattle.rehearsal.specs.Start.{values-few, prepares-refused, prepares-ready}
@@ -26,7 +27,7 @@ returns c =
     let v = w .before .before .before in
     let r = v .before .before .before in
     let e = r .before .before .before .before .before .before in
-    prepares-refused (e .args .text .now) _ _ (refused-by (r .read-text .ensures) _ _ (v .verdict .given .1)) (w .write-refusal .ensures)
+    prepares-refused (lending (e .args .text .now) (e .args .state .now) (e .args .values .now)) _ _ (refused-by (r .read-text .ensures) _ _ (v .verdict .given .1)) (w .write-refusal .ensures)
 
 returns-2 : tie.Need-returns-2
 returns-2 c =
@@ -35,7 +36,7 @@ returns-2 c =
     let t = n .before .before in
     let r = t .before .before .before in
     let e = r .before .before .before .before .before .before in
-    prepares-ready (e .args .text .now) _ (accepted-by (r .read-text .ensures) (t .enum-told .given .1)) (e .args .values .now) (e .pre .0)
+    prepares-ready (lending (e .args .text .now) (e .args .state .now) (e .args .values .now)) _ (accepted-by (r .read-text .ensures) (t .enum-told .given .1)) (e .pre .0)
     (n .value-count .ensures) (s .start-on .ensures)
 
 pub prepare-spec : {M : Type 1} → statement M

@@ -1,6 +1,7 @@
 -- An LF has the line answered, and any other byte is kept.
 use mathlib.Core.Path.{sym}
 use lib.Seq.{length-take-le}
+use Rattle.machine_words.specs.Calls.{lending}
 use Rattle.rehearsal.specs.Laws.{on-lf, on-other}
 use borrow.Author.Needs.{needs}
 use Rattle.rehearsal.proofs.take_byte.Statement.{statement}
@@ -17,14 +18,14 @@ returns c =
     let i = l .before .before .before .before .before in
     let e = i .before .before .before .before .before .before in
     let a = e .args in
-    on-lf (a .text .now) (a .state .now) (a .values .now) (a .line .now) (a .kept) (a .out .now) (a .size) (a .byte) (i .if1 .taken) (e .pre .1) (a .line .now)
+    on-lf (lending (a .text .now) (a .state .now) (a .values .now)) (a .line .now) (a .kept) (a .out .now) (a .size) (a .byte) (i .if1 .taken) (e .pre .1) (a .line .now)
     (l .answer-line .ensures)
 
 returns-2 : tie.Need-returns-2
 returns-2 c =
     let i = c .before .before .before .before in
     let a = i .before .before .before .before .before .before .args in
-    on-other (a .text .now) (a .state .now) (a .values .now) (a .line .now) (a .kept) (a .out .now) (a .size) (a .byte) (i .if1 .left) (c .before .before .keep .ensures)
+    on-other (lending (a .text .now) (a .state .now) (a .values .now)) (a .line .now) (a .kept) (a .out .now) (a .size) (a .byte) (i .if1 .left) (c .before .before .keep .ensures)
 
 pub take-byte-spec : {M : Type 1} → statement M
 take-byte-spec =

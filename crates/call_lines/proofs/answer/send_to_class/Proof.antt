@@ -1,4 +1,5 @@
 -- `send_to_class` meets its contract: the names are looked up, and the call is made on their numbers.
+use Rattle.machine_words.specs.Calls.{lending}
 use Rattle.call_lines.specs.Says.{says-called}
 use Rattle.call_lines.specs.Names.{leaves-class}
 use borrow.Author.Needs.{needs}
@@ -9,7 +10,7 @@ returns : tie.Need-returns
 returns c =
     let a = c .before .before .before .before .before .before .before .before .before .before .before .before .before .before .before .before .before .before .args in
     says-called
-    (leaves-class (a .text .now) (a .state .now) (a .values .now) (a .slot) (a .name .now) (a .method .now) (a .argument) (c .before .before .before .before .before .before .before .before .before .before .class-named .ensures) (c .before .before .before .before .before .before .before .before .method-named .ensures) (c .before .before .before .before .before .before .send .ensures))
+    (leaves-class (lending (a .text .now) (a .state .now) (a .values .now)) (a .slot) (a .name .now) (a .method .now) (a .argument) (c .before .before .before .before .before .before .before .before .before .before .class-named .ensures) (c .before .before .before .before .before .before .before .before .method-named .ensures) (c .before .before .before .before .before .before .send .ensures))
     (c .before .before .put-outcome .ensures)
 
 pub send-to-class-spec : {M : Type 1} → statement M

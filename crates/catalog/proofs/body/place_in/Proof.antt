@@ -12,5 +12,8 @@ returns c =
     let s = c .before .before .before .before in
     s .pre ∙ ap (λ (k : ℕ). memberPlace (membersOf (s .args .text .now) (s .args .tables .now) k 1) (s .args .name .now)) (sym (c .if1 .taken))
 
+returns-2 : tie.Need-returns-2
+returns-2 c = search needs
+
 pub place-in-spec : {M : Type 1} → statement M
-place-in-spec = tie.close (tie.spec returns (λ c κs. search needs) (λ c. search needs))
+place-in-spec = tie.close (tie.spec returns (λ c κs. search needs) returns-2)

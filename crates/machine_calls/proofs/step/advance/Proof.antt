@@ -9,7 +9,7 @@ returns c =
     let e = c .before .before in
     let k = e .before .before .before .before .before .before in
     let d = k .before .before .before in
-    stepped _ _ _ _ (d .before .before .before .before .before .before .before .before .pre) (d .decide .result) (d .decide .ensures) (k .carry .result) _ _ (search needs) (k .carry .ensures) _ _
+    stepped _ _ (d .before .before .before .before .before .before .before .before .pre) (d .decide .result) (d .decide .ensures) (k .carry .result) _ _ (search needs) (k .carry .ensures) _ _
     (e .end-step .ensures .0) (e .end-step .ensures .1)
 
 pub advance-spec : {M : Type 1} → statement M

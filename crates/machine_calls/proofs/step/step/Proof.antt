@@ -6,30 +6,30 @@ use Rattle.machine_calls.proofs.step.step.Statement.{statement}
 use Rattle.machine_calls.proofs.step.step.Tie as tie
 
 returns : tie.Need-returns
-returns c = leaves-as (refused-first _ _ _ _ _ (c .before .refusal .ensures) (c .if1 .taken)) (record { says = refl; words-are = refl; values-are = refl })
+returns c = leaves-as (refused-first _ _ _ (c .before .refusal .ensures) (c .if1 .taken)) (record { says = refl; left = refl })
 
 returns-2 : tie.Need-returns-2
 returns-2 c =
     let f = c .before in
     let e = f .before .before in
-    leaves-as (when-closed _ _ _ _ _ (e .before .refusal .ensures) (e .if1 .left) _ (f .phase-of .ensures) (c .if2 .taken)) (record { says = refl; words-are = refl; values-are = refl })
+    leaves-as (when-closed _ _ _ (e .before .refusal .ensures) (e .if1 .left) _ (f .phase-of .ensures) (c .if2 .taken)) (record { says = refl; left = refl })
 
 returns-3 : tie.Need-returns-3
 returns-3 c =
     let f = c .before .before in
     let e = f .before .before in
-    leaves-as (when-idle _ _ _ _ _ (e .before .refusal .ensures) (e .if1 .left) _ (f .phase-of .ensures) (c .if3 .taken)) (record { says = refl; words-are = refl; values-are = refl })
+    leaves-as (when-idle _ _ _ (e .before .refusal .ensures) (e .if1 .left) _ (f .phase-of .ensures) (c .if3 .taken)) (record { says = refl; left = refl })
 
 returns-4 : tie.Need-returns-4
 returns-4 c =
     let f = c .before .before .before in
     let e = f .before .before in
-    leaves-as (when-waiting _ _ _ _ _ (e .before .refusal .ensures) (e .if1 .left) _ (f .phase-of .ensures) (c .if4 .taken)) (record { says = refl; words-are = refl; values-are = refl })
+    leaves-as (when-waiting _ _ _ (e .before .refusal .ensures) (e .if1 .left) _ (f .phase-of .ensures) (c .if4 .taken)) (record { says = refl; left = refl })
 
 advance-requires : tie.Need-advance-requires
 advance-requires c κs =
     let e = c .before .before .before .before .before .before .before in
-    within _ _ _ _ _ (e .before .refusal .ensures) (e .if1 .left)
+    within _ _ _ (e .before .refusal .ensures) (e .if1 .left)
 
 returns-5 : tie.Need-returns-5
 returns-5 c =
@@ -39,7 +39,7 @@ returns-5 c =
     let i = j .before in
     let f = i .before in
     let e = f .before .before in
-    leaves-as (when-left _ _ _ _ _ (e .before .refusal .ensures) (e .if1 .left) _ (f .phase-of .ensures) (i .if2 .left) (j .if3 .left) (k .if4 .left)) (l .advance .ensures)
+    leaves-as (when-left _ _ _ (e .before .refusal .ensures) (e .if1 .left) _ (f .phase-of .ensures) (i .if2 .left) (j .if3 .left) (k .if4 .left)) (l .advance .ensures)
 
 pub step-spec : {M : Type 1} → statement M
 step-spec =

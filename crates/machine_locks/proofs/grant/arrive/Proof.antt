@@ -9,13 +9,14 @@ use lib.Count.{trailing-le}
 use lib.ListN.{set}
 use Rattle.layout.specs.Layout.{lineAt}
 use Rattle.machine_words.specs.Line.{withPlace, withRow, waitingRow, tablesOf, rowOf}
+use Rattle.machine_words.specs.Calls.{lending-same}
 use Rattle.machine_checks.specs.Phases.{leaves-as}
-use Rattle.machine_locks.specs.Asked.{asked}
-use Rattle.machine_locks.specs.Ahead.{count-le}
+use Rattle.machine_conflicts.specs.Ahead.{count-le}
 use Rattle.machine_locks.specs.Outcomes.{says-held, leaves-refused}
 use Rattle.machine_locks.specs.Granted.{arrives-free, arrives-full, arrives-last}
 use Rattle.machine_locks.proofs.grant.arrive.Statement.{statement}
 use Rattle.machine_locks.proofs.grant.arrive.Tie as tie
+use Rattle.machine_words.specs.Said.{asked}
 
 clashing-requires : tie.Need-clashing-requires
 clashing-requires c κs =
@@ -29,7 +30,7 @@ returns c =
     let i = k .before .before in
     let m = i .before in
     let n = m .before .before in
-    λ values. leaves-as (arrives-free _ _ values _ _ _ _ (n .waiting-count .ensures) (m .clashing .ensures) (i .if1 .taken)) (k .start-send .ensures values)
+    λ values. leaves-as (arrives-free _ _ _ _ _ (n .waiting-count .ensures) (m .clashing .ensures) (i .if1 .taken)) (k .start-send .ensures values)
 
 returns-2 : tie.Need-returns-2
 returns-2 c =
@@ -39,8 +40,8 @@ returns-2 c =
     let m = i .before in
     let n = m .before .before in
     let b = sym (c .if3 .taken) ∙ o .closes-circle .ensures in
-    λ values. leaves-as (arrives-last _ _ values _ _ _ _ (n .waiting-count .ensures) (m .clashing .ensures) (i .if1 .left) (k .if2 .taken) true b)
-    (leaves-refused _ values 42 (omega arith) (omega arith))
+    λ values. leaves-as (arrives-last _ _ _ _ _ (n .waiting-count .ensures) (m .clashing .ensures) (i .if1 .left) (k .if2 .taken) true b)
+    (leaves-refused _ 42 (omega arith) (omega arith))
 
 add-result : tie.Need-add-result
 add-result c =
@@ -59,13 +60,11 @@ returns-3 c =
     let a = n .before .before .before .before .args in
     let row : List ℕ = waitingRow (a .text .now) (tablesOf (a .state .now)) (asked (a .wanted)) (rowOf (a .state .now) (a .slot)) in
     let b = sym (e .if3 .left) ∙ o .closes-circle .ensures in
-    λ values. leaves-as (arrives-last _ _ values _ _ _ _ (n .waiting-count .ensures) (m .clashing .ensures) (i .if1 .left) (k .if2 .taken) false b)
+    λ values. leaves-as (arrives-last _ _ _ _ _ (n .waiting-count .ensures) (m .clashing .ensures) (i .if1 .left) (k .if2 .taken) false b)
     (record {
       says = says-held _;
-      words-are =
-          j .join .ensures
-          ∙ ap (λ (x : ℕ). set (withPlace (withRow (a .state .now) (a .slot) row) x (a .slot)) lineAt (suc x)) (n .waiting-count .ensures);
-      values-are = refl;
+      left = lending-same refl
+          (j .join .ensures ∙ ap (λ (x : ℕ). set (withPlace (withRow (a .state .now) (a .slot) row) x (a .slot)) lineAt (suc x)) (n .waiting-count .ensures)) refl;
     })
 
 returns-4 : tie.Need-returns-4
@@ -73,8 +72,8 @@ returns-4 c =
     let i = c .before in
     let m = i .before in
     let n = m .before .before in
-    λ values. leaves-as (arrives-full _ _ values _ _ _ _ (n .waiting-count .ensures) (m .clashing .ensures) (i .if1 .left) (c .if2 .left))
-    (leaves-refused _ values 24 (omega arith) (omega arith))
+    λ values. leaves-as (arrives-full _ _ _ _ _ (n .waiting-count .ensures) (m .clashing .ensures) (i .if1 .left) (c .if2 .left))
+    (leaves-refused _ 24 (omega arith) (omega arith))
 
 pub arrive-spec : {M : Type 1} → statement M
 arrive-spec =

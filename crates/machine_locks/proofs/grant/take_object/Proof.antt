@@ -1,7 +1,7 @@
 -- `take_object` meets its contract: the locks and then the message are written into the lent row.
 use borrow.Author.Needs.{needs}
 use Rattle.machine_locks.specs.OneObject.{first-there}
-use Rattle.machine_locks.specs.Holders.{at-once-named}
+use Rattle.machine_conflicts.specs.Holders.{at-once-named}
 use Rattle.machine_locks.specs.Granted.{taken-lent}
 use Rattle.machine_locks.proofs.grant.take_object.Statement.{statement}
 use Rattle.machine_locks.proofs.grant.take_object.Tie as tie

@@ -8,13 +8,13 @@ use Rattle.machine_locks.proofs.request.send_class.Statement.{statement
 use Rattle.machine_locks.proofs.request.send_class.Tie as tie
 
 returns : tie.Need-returns
-returns c = λ values. leaves-as (class-none _ _ values _ _ _ _ _ _ (c .before .class-count .ensures) (c .if1 .taken)) (leaves-refused _ values 36 (omega arith) (omega arith))
+returns c = λ values. leaves-as (class-none _ _ _ _ _ _ _ (c .before .class-count .ensures) (c .if1 .taken)) (leaves-refused _ 36 (omega arith) (omega arith))
 
 returns-2 : tie.Need-returns-2
 returns-2 c =
     let k = c .before .before in
     let i = k .before .before in
-    λ values. leaves-as (class-there _ _ values _ _ _ _ _ _ (i .before .class-count .ensures) (i .if1 .left)) (k .send-to .ensures values)
+    λ values. leaves-as (class-there _ _ _ _ _ _ _ (i .before .class-count .ensures) (i .if1 .left)) (k .send-to .ensures values)
 
 pub send-class-spec : {M : Type 1} → statement M
 send-class-spec =

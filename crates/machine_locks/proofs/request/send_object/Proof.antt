@@ -8,7 +8,7 @@ use Rattle.machine_locks.proofs.request.send_object.Statement.{statemen
 use Rattle.machine_locks.proofs.request.send_object.Tie as tie
 
 returns : tie.Need-returns
-returns c = λ values. leaves-as (object-none _ _ values _ _ _ _ _ (c .before .object-count .ensures) (c .if1 .taken)) (leaves-refused _ values 36 (omega arith) (omega arith))
+returns c = λ values. leaves-as (object-none _ _ _ _ _ _ (c .before .object-count .ensures) (c .if1 .taken)) (leaves-refused _ 36 (omega arith) (omega arith))
 
 send-to-object-requires : tie.Need-send-to-object-requires
 send-to-object-requires c κs =
@@ -22,7 +22,7 @@ returns-2 c =
     let k = c .before .before in
     let w = k .before .before in
     let i = w .before .before .before in
-    λ values. leaves-as (object-there _ _ values _ _ _ _ _ _ (i .before .object-count .ensures) (i .if1 .left) (w .class-of .ensures)) (k .send-to-object .ensures values)
+    λ values. leaves-as (object-there _ _ _ _ _ _ _ (i .before .object-count .ensures) (i .if1 .left) (w .class-of .ensures)) (k .send-to-object .ensures values)
 
 pub send-object-spec : {M : Type 1} → statement M
 send-object-spec =

@@ -10,17 +10,17 @@ use Rattle.machine_locks.proofs.request.send_to.Tie as tie
 
 returns : tie.Need-returns
 returns c =
-    λ values. leaves-as (sent-refused _ _ values _ _ _ _ _ _ _ (c .before .method-refusal .ensures) (c .if1 .taken))
-    (leaves-refused _ values _ (c .if1 .taken) (refusal-lt _ _ _ _ (c .before .method-refusal .ensures)))
+    λ values. leaves-as (sent-refused _ _ _ _ _ _ _ _ (c .before .method-refusal .ensures) (c .if1 .taken))
+    (leaves-refused _ _ (c .if1 .taken) (refusal-lt _ _ _ _ (c .before .method-refusal .ensures)))
 
 returns-2 : tie.Need-returns-2
 returns-2 c =
     let l = c .before in
     let w = l .before .before .before in
     let i = w .before .before .before in
-    λ values. leaves-as (sent-lacking _ _ values _ _ _ _ _ _ _ (i .before .method-refusal .ensures) (i .if1 .left) _ (w .wanted-of .ensures)
+    λ values. leaves-as (sent-lacking _ _ _ _ _ _ _ _ (i .before .method-refusal .ensures) (i .if1 .left) _ (w .wanted-of .ensures)
     (sym (l .domain-lacks .ensures) ∙ c .if2 .taken))
-    (leaves-refused _ values 24 (omega arith) (omega arith))
+    (leaves-refused _ 24 (omega arith) (omega arith))
 
 grant-requires : tie.Need-grant-requires
 grant-requires c κs =
@@ -38,7 +38,7 @@ returns-3 c =
     let l = o .before in
     let w = l .before .before .before in
     let i = w .before .before .before in
-    λ values. leaves-as (sent-there _ _ values _ _ _ _ _ _ _ (i .before .method-refusal .ensures) (i .if1 .left) _ (w .wanted-of .ensures)
+    λ values. leaves-as (sent-there _ _ _ _ _ _ _ _ (i .before .method-refusal .ensures) (i .if1 .left) _ (w .wanted-of .ensures)
     (sym (l .domain-lacks .ensures) ∙ o .if2 .left)) (g .grant .ensures values)
 
 pub send-to-spec : {M : Type 1} → statement M

@@ -8,8 +8,8 @@ use Rattle.machine_locks.proofs.request.send_to_object.Tie as tie
 
 returns : tie.Need-returns
 returns c =
-    λ values. leaves-as (sent-refused _ _ values _ _ _ _ _ _ _ (c .before .method-refusal .ensures) (c .if1 .taken))
-    (leaves-refused _ values _ (c .if1 .taken) (refusal-lt _ _ _ _ (c .before .method-refusal .ensures)))
+    λ values. leaves-as (sent-refused _ _ _ _ _ _ _ _ (c .before .method-refusal .ensures) (c .if1 .taken))
+    (leaves-refused _ _ (c .if1 .taken) (refusal-lt _ _ _ _ (c .before .method-refusal .ensures)))
 
 grant-object-requires : tie.Need-grant-object-requires
 grant-object-requires c κs =
@@ -25,7 +25,7 @@ returns-2 c =
     let g = c .before .before in
     let w = g .before .before in
     let i = w .before .before .before in
-    λ values. leaves-as (sent-there _ _ values _ _ _ _ _ _ _ (i .before .method-refusal .ensures) (i .if1 .left) _ (w .wanted-of .ensures)
+    λ values. leaves-as (sent-there _ _ _ _ _ _ _ _ (i .before .method-refusal .ensures) (i .if1 .left) _ (w .wanted-of .ensures)
     (object-lacks _ _ _ _ _ _ _ (w .wanted-of .ensures))) (g .grant-object .ensures values)
 
 pub send-to-object-spec : {M : Type 1} → statement M

@@ -2,10 +2,10 @@
 use borrow.Author.Needs.{needs}
 use mathlib.Core.Path.{ap, _∙_}
 use Rattle.machine_words.specs.Line.{rowOf, withdrawn}
+use Rattle.machine_words.specs.Said.{asked}
 use Rattle.machine_checks.specs.Lent.{part-is, lent-is, row-size}
-use Rattle.machine_locks.specs.Asked.{asked}
 use Rattle.machine_locks.specs.Granted.{again-entered}
-use Rattle.machine_locks.specs.Waits.{withdrawn-length}
+use Rattle.machine_take.specs.Waits.{withdrawn-length}
 use Rattle.machine_locks.proofs.wake.start_waiting.Statement.{statement}
 use Rattle.machine_locks.proofs.wake.start_waiting.Tie as tie
 

@@ -5,7 +5,7 @@ use native.Mathlib.Omega.{arith}
 use mathlib.Core.Path.{_≡_, refl, ap, _∙_}
 use lib.ListN.{length}
 use Rattle.machine_words.specs.Line.{wokenSlot, wokenFrom}
-use Rattle.machine_locks.specs.Ahead.{count-le}
+use Rattle.machine_conflicts.specs.Ahead.{count-le}
 use Rattle.machine_locks.specs.Woken.{leaving-as, wakes-nobody, wakes-begun, wakes-more, waits-more, wakes-all}
 use Rattle.machine_locks.proofs.wake.wake.Statement.{statement}
 use Rattle.machine_locks.proofs.wake.wake.Tie as tie

@@ -3,7 +3,7 @@ use borrow.Author.Needs.{needs}
 use native.Mathlib.Omega.{arith}
 use mathlib.Core.Path.{refl}
 use borrow.Author.Tests.{not-true, not-false}
-use Rattle.machine_locks.specs.Asked.{asked}
+use Rattle.machine_words.specs.Said.{asked}
 use Rattle.machine_locks.specs.Woken.{leaving-as, waiting-slot, leaves-line, wakes-slot, few-places}
 use Rattle.machine_locks.proofs.wake.wake_slot.Statement.{statement}
 use Rattle.machine_locks.proofs.wake.wake_slot.Tie as tie

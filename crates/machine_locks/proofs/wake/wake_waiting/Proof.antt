@@ -1,10 +1,9 @@
 -- `wake_waiting` meets its contract, by the slots in the way and by where the message starts.
 use borrow.Author.Needs.{needs}
 use mathlib.Core.Path.{refl, ap}
-use Rattle.machine_locks.specs.Asked.{asked}
-use Rattle.machine_locks.specs.Begun.{saidFirst}
+use Rattle.machine_words.specs.Said.{asked, saidFirst}
 use Rattle.machine_locks.specs.Woken.{leaving-as, still-blocked, wakes-nowhere, wakes-there}
-use Rattle.machine_locks.proofs.Somewhere.{somewhere}
+use Rattle.machine_take.proofs.Somewhere.{somewhere}
 use Rattle.machine_locks.proofs.wake.wake_waiting.Statement.{statement}
 use Rattle.machine_locks.proofs.wake.wake_waiting.Tie as tie
 

@@ -7,7 +7,7 @@ use Rattle.model.specs.Base.{upto}
 use Rattle.model.specs.Image.{mask}
 use Rattle.catalog.specs.View.{memberCount}
 use Rattle.vector_direct.specs.Masks.{mask-turn}
-use Rattle.vector_compiler.specs.Commuting.{apart}
+use Rattle.vector_commute.specs.Commuting.{apart}
 use Rattle.vector_compiler.specs.Filling.{stored, commutingMask}
 use Rattle.vector_compiler.proofs.fill.commuting_mask.Statement.{statement}
 use Rattle.vector_compiler.proofs.fill.commuting_mask.Tie as tie

@@ -1,0 +1,9 @@
+pub mod Counts
+pub mod Course
+pub mod Moment
+pub mod Example
+pub mod Made
+pub mod PlainCourse
+pub mod Seen
+pub mod Line
+pub mod Steps

@@ -1,0 +1,4 @@
+pub mod Locking
+pub mod Begun
+pub mod Taken
+pub mod Waits

@@ -1,0 +1,3 @@
+pub mod Reachability
+pub mod Lawful
+pub mod VectorLaws
