@@ -115,11 +115,13 @@ uint32_t cishmolaq_print_tables(const uint8_t *text, size_t text_length, uint8_t
  *   40  the send clashes and waits in line; the lowest slot that it clashes with, holder or waiter, is in *detail
  *   41  stopped; the transaction is undone and its slot is closed
  *   42  the send clashes and would close a circle of waits: it does not wait, and no slot is named (send)
- * *detail is 0 beside any number but 2 and 40. 21 is tested first, then 24 as far as lengths and the mark of a start show it, then
- * 31, 32, 37, 34, 35 and 36 in this order, then what else of 24 the call comes upon, then 42 and 40. With 21 to 37 and 42 nothing is
- * altered. With 40 the slot is open and waits; the values, all locks and every other slot are as they were. 21 and 24 are given only
- * where a call is lent something other than start and the calls left. On such memory a call gives 24 or goes on by the rules on what it
- * finds; it ends, and touches nothing but what it is lent.
+ * *detail is 0 beside any number but 2 and 40. 21 is tested first, then 24 as far as lengths, the mark of a start and the state's counts
+ * (of classes, statements, objects and waiting slots) show it, then 31, 32, 37, 34, 35 and 36 in this order, then 42 and 40. With 21 to 37
+ * and 42 nothing is altered. With 40 the slot is open and waits; the values, all locks and every other slot are as they were. 21 and 24 are
+ * given only where a call is lent something other than start and the calls left. On such memory a call gives 24 or goes on by the rules on
+ * what it finds; it ends, and touches nothing but what it is lent. There 24 may also come before 32 to 37, where a word that these tests
+ * read is out of range (a slot's phase, an object's class), or after them, where the call comes upon such a word or name later; and a waiting
+ * send whose words name no target or no method goes on waiting.
  */
 
 /* The length of a state in words of 32 bits, the same for every text; a longer one is good too, and its rest is left alone. */

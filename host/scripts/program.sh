@@ -1,8 +1,28 @@
-# What the scripts at the repository's top share: how far a proof is, a program's folder, what a refusal means. They source it and
-# run in the repository's folder.
+# What the scripts at the repository's top share: their use, how far a proof is, a program's folder, what a refusal means. They source it
+# and run in the repository's folder.
 
 say() {
     printf '%s: %s\n' "${0##*/}" "$*" >&2
+}
+
+# Prints the script's opening comment.
+help() {
+    sed -n '2,$ { /^#/!q; s/^# //p; }' "$0"
+}
+
+# Answers --help; more words than the script takes end it.
+take_words() { # MOST WORDS
+    most=$1
+    shift
+    case ${1-} in --help)
+        help
+        exit 0
+        ;;
+    esac
+    if [ $# -gt "$most" ]; then
+        help >&2
+        exit 2
+    fi
 }
 
 # How many crates a crate stands on, itself included.
@@ -62,12 +82,33 @@ prove() { # NAME
     fi
 }
 
-# Where the first line printed refuses the text: says what its number means, and shows the line that it names.
-explain() { # PRINTED
+# Says so where lines of a file end with CR LF.
+warn_of_crlf() { # FILE [NAME]
+    if LC_ALL=C grep -q "$(printf '\r')\$" "$1"; then
+        say "${2:-$1}: lines end with LF alone, and some here end with CR LF"
+    fi
+}
+
+# Where the first line printed refuses the text: prints it, says what its number means, shows the line that it names, and ends the script
+# with 1.
+stop_if_refused() { # PRINTED
     case $1 in "refused "[1-9]*) ;; *) return 0 ;; esac
+    printf '%s\n' "$1"
     # shellcheck disable=SC2086 # the three words of a refusal
     set -- $1
-    case $2 in
+    explain "$2"
+    if [ "$3" -gt "$(sed -n '$=' "$folder/lib.txt")" ]; then
+        say "line $3: the text has ended"
+    elif [ "$3" -gt 0 ]; then
+        say "line $3: $(sed -n "$3p" "$folder/lib.txt" | LC_ALL=C tr -c '\n[:print:]' '?' | cut -c 1-200)"
+    fi
+    warn_of_crlf "$folder/lib.txt" "the text"
+    exit 1
+}
+
+# Says what the number of a text's fault means.
+explain() { # NUMBER
+    case $1 in
     11) say "11: the text has more than 32,768 bytes" ;;
     12) say "12: a line of no allowed form or out of place, a last line without LF, or a method without end" ;;
     13) say "13: a name is repeated where it must be new" ;;
@@ -76,9 +117,4 @@ explain() { # PRINTED
     16) say "16: the class before the dot is no ancestor of this class" ;;
     17) say "17: too many: at most 16 classes, 64 objects, 4 parents, 32 fields, 32 methods, 32 statements, a value for each field" ;;
     esac
-    if [ "$3" -gt "$(sed -n '$=' "$folder/lib.txt")" ]; then
-        say "line $3: the text has ended"
-    elif [ "$3" -gt 0 ]; then
-        say "line $3: $(sed -n "$3p" "$folder/lib.txt" | LC_ALL=C tr -c '\n[:print:]' '?' | cut -c 1-200)"
-    fi
 }

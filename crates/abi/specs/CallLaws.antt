@@ -2,15 +2,15 @@
 use Prim.Native.Nat.{ℕ, _≤_}
 use native.Mathlib.Omega.{arith}
 use mathlib.Core.Path.{_≡_, refl, sym, ap, subst, _∙_}
-use mathlib.Core.Logic.{_⊎_, inl, inr, ⊎-elim}
-use mathlib.Core.Bool.{false}
+use mathlib.Core.Bool.{Bool, true, false, _||_, false≢true}
+use mathlib.Core.List.{List, [], _∷_}
 use lib.ListN.{length}
-use lib.Dec.{ltb}
-use borrow.Author.Tests.{eq-eqb, ne-eqb, le-ltb}
+use lib.Dec.{ltb, eqb}
+use borrow.Author.Tests.{eq-eqb, ne-eqb, le-ltb, eqb-true}
 use Rattle.layout.specs.Layout.{stateWords}
 use Rattle.model.specs.Told.{Told}
 use Rattle.model.specs.Service.{callNumber, callDetail}
-use Rattle.model.specs.Machine.{Call, send, to, Target, object, class, domain, startAnswer}
+use Rattle.model.specs.Machine.{Call, send, to, Target, object, class, domain, startAnswer, step, commit, abort}
 use Rattle.catalog.specs.View.{objectCount}
 use Rattle.machine_words.specs.Calls.{Lent, tablesOf, refused, sentBy}
 use Rattle.machine_words.specs.declared.Outcome.{Outcome}
@@ -18,9 +18,10 @@ use Rattle.machine_words.specs.declared.Outcome.the-variants.{Refused}
 use Rattle.machine_words.specs.Said.{told}
 use Rattle.cishmolaq.specs.declared.Answer as Start
 use Rattle.cishmolaq.specs.Answers.{StartLeaves, Begins}
-use Rattle.cishmolaq.specs.Keeps.{Numbered}
+use Rattle.cishmolaq.specs.Keeps.{refusalsOf, othersOf, isAmong, Among, Numbered}
 use Rattle.cishmolaq.specs.Promises.{Does}
 use Rattle.abi.specs.Calls.{targetOf, Called}
+use Rattle.laws.specs.Basics.{All}
 
 -- ---- start
 
@@ -64,10 +65,23 @@ module _ (kind n : ℕ) where
 
 -- ---- numbers
 
--- A refusal's number is one of 21 to 37, or 42, so the number alone tells what the call answered.
-pub refused-apart : {x y : Lent} {c : Call} {r detail : ℕ} (h : Called x c r detail y)
-    → (n : ℕ) → h .outcome ≡ Refused n → ((21 ≤ r) × (r ≤ 37)) ⊎ (r ≡ 42)
-refused-apart h n e =
-    let limits = subst (λ (o : Outcome). Numbered (told o)) e (h .does .number) in
-    let is = h .number ∙ ap (λ (o : Outcome). callNumber (told o)) e in
-    ⊎-elim (λ x. inl (omega (arith, x .0, is), omega (arith, x .1, is))) (λ x. inr (is ∙ x)) limits
+-- A refusal's number is one of the call's refusals ..
+pub refused-number : {x y : Lent} {c : Call} {r detail : ℕ} (h : Called x c r detail y) → (n : ℕ) → h .outcome ≡ Refused n → Among (refusalsOf c) r
+refused-number {c = c} h n e =
+    subst (Among (refusalsOf c)) (sym (h .number ∙ ap (λ (o : Outcome). callNumber (told o)) e)) (subst (λ (o : Outcome). Numbered c (told o)) e (h .does .number))
+
+-- What holds of every number of a list holds of one that is among them.
+among-all : (P : ℕ → Type 0) (n : ℕ) (ns : List ℕ) → All P ns → Among ns n → P n
+among-all P n [] all e = absurd (false≢true e)
+among-all P n (m ∷ ms) all e = go (among-all P n ms (all .1)) (eqb n m) refl e
+  where
+    go : (Among ms n → P n) → (b : Bool) → eqb n m ≡ b → (b || isAmong ms n) ≡ true → P n
+    go rest true q f = subst P (sym (eqb-true n m q)) (all .0)
+    go rest false q f = rest f
+
+-- .. and none of the numbers of its other answers, so the number alone tells what the call answered.
+pub refused-apart : (c : Call) (n : ℕ) → Among (refusalsOf c) n → isAmong (othersOf c) n ≡ false
+refused-apart (send s q) n = among-all (λ m. isAmong (othersOf (send s q)) m ≡ false) n (refusalsOf (send s q)) (refl, (refl, (refl, (refl, (refl, (refl, (refl, tt)))))))
+refused-apart (step s) n = among-all (λ m. isAmong (othersOf (step s)) m ≡ false) n (refusalsOf (step s)) (refl, (refl, (refl, (refl, (refl, (refl, tt))))))
+refused-apart (commit s) n = among-all (λ m. isAmong (othersOf (commit s)) m ≡ false) n (refusalsOf (commit s)) (refl, (refl, (refl, (refl, (refl, (refl, tt))))))
+refused-apart (abort s) n = among-all (λ m. isAmong (othersOf (abort s)) m ≡ false) n (refusalsOf (abort s)) (refl, (refl, (refl, (refl, tt))))

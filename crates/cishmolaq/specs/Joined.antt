@@ -13,7 +13,7 @@ use borrow.Author.Tests.{ltb-true, ltb-false, le-ltb}
 use Rattle.layout.specs.Layout.{phaseAt, waitingAt, waitingWords, spareAt, rowWords, lineAt, firstInLineAt, stateWords}
 use Rattle.laws.specs.Lists.{both-left}
 use Rattle.machine_words.specs.Request.{Wanted, namedRow, locked, First, on, past, nowhere, firstOf, entered}
-use Rattle.machine_words.specs.Line.{tablesOf, rowStart, rowOf, withRow, phaseOf, waitingIn, wantedIn, requested, waitingRow, withdrawn, countIn, firstInLine, slotAt, withPlace, obstacle, Waking, startedFrom, startedOrKept, wokenOr, isWaiting, wokenSlot, wokenFrom, woken}
+use Rattle.machine_words.specs.Line.{tablesOf, rowStart, rowOf, withRow, phaseOf, waitingSend, requested, waitingRow, withdrawn, countIn, firstInLine, slotAt, withPlace, obstacle, Waking, startedFrom, startedOrKept, wokenOr, isWaiting, wokenSlot, wokenFrom, woken}
 use Rattle.machine_words.specs.Calls.{Lent, withWords}
 use Rattle.machine_words.specs.Spans.{drop-sets}
 use Rattle.machine_words.specs.Rows.{with-same, with-other, with-tables, with-line, place-row, place-tables}
@@ -130,7 +130,7 @@ module _ (text : List ℕ) where
   -- One slot of the line: at most one more waits.
   module _ (ws : List ℕ) (n t : ℕ) (long : stateWords ≤ length ws) (few : n < 8) where
     abbrev q : Wanted
-    q = wantedIn (waitingIn (rowOf ws t))
+    q = waitingSend ws t
 
     abbrev Good : Waking → Type 0
     Good w = (w .waiting ≤ suc n) × Past ws (w .words)

@@ -23,10 +23,10 @@ pub record Does (x : Lent) (c : Call) (r : Outcome) (y : Lent) : Type 0 where
   pub kept : Kept (slotIn c) (told r) x y
   -- What lies past the machine's words is unchanged.
   pub past : drop stateWords (y .words) ≡ drop stateWords (x .words)
-  -- 40 names another slot, which is open or in line in the lent words.
+  -- 40 names another slot, which is open in the lent words.
   pub holder : Holder (x .words) (slotIn c) (told r)
-  -- A refusal's number is one of 21 to 37, or 42.
-  pub number : Numbered (told r)
+  -- The answer is one that the call can give.
+  pub number : Numbered c (told r)
   -- Demand 2: on what start and the calls left, the words represent a world of the machine, and the answer is the model's ..
   pub says : (p : Program) (w : World (service p)) → Rep x p w → told r ≡ call p w c .0
   -- .. what is left represents the world after the call ..
@@ -43,11 +43,11 @@ promised x c r y h = record {
       (subst (λ (a : Answer). Kept (slotIn c) a x (called x c .lent)) (sym (h .says)) (all .kept));
   past = ap (λ (l : Lent). drop stateWords (l .words)) (h .left) ∙ all .past;
   holder = subst (Holder (x .words) (slotIn c)) (sym (h .says)) (all .holder);
-  number = subst Numbered (sym (h .says)) (all .number);
+  number = subst (Numbered c) (sym (h .says)) (all .number);
   says = λ p w rep. h .says ∙ refines x p w rep c .0;
   next = λ p w rep. subst (λ (l : Lent). Rep l p (call p w c .1)) (sym (h .left)) (refines x p w rep c .1);
   fits = λ p w rep n e. never-unfit x p w rep c n (sym (h .says) ∙ e);
 }
   where
-    all : Keeps x (slotIn c) (called x c)
+    all : Keeps x c (called x c)
     all = every-call x c

@@ -21,7 +21,7 @@ use Rattle.model.specs.Rehearsal.{rehearsed}
 use Rattle.model.specs.Service.{callNumber, callDetail}
 use Rattle.model.specs.Machine.{object, class, domain, to, Call, send, step, commit, abort, Answer, done, going, answer, refuse, held, stopped, startAnswer, played}
 use Rattle.model.specs.Course.{Compared, course}
-use Rattle.examples.specs.ExampleTexts.{text, lanes, figure1, endless, spiral, diamond, circle, prefixed, mixed, tally, long}
+use Rattle.examples.specs.ExampleTexts.{text, lanes, figure1, endless, spiral, diamond, circle, prefixed, mixed, echo, tally, long}
 
 -- An input and the expected result.
 pub data Row : Type 0 where
@@ -31,8 +31,9 @@ pub data Row : Type 0 where
   prints : List ℕ → List ℕ → Row
   -- the direct vector of a class's method, in the letters of `tables`
   direct : List ℕ → ℕ → String → String → Row
-  -- the length of a text's image, and its pairs
+  -- the length of a text's image, and its pairs; the whole image, in u32 numbers
   pairs : List ℕ → ℕ → List ℕ → Row
+  images : List ℕ → List ℕ → Row
   -- a statement of a text by its count; the number of a refused look-up
   finds : List ℕ → ℕ → String → Row
   misses : List ℕ → ℕ → ℕ → Row
@@ -52,6 +53,8 @@ pub data Row : Type 0 where
   plays : List ℕ → List Call → List Answer → List ℕ → Row
   -- the same list leaves nothing open, and the plain course ends with the same fields and answers
   agrees : List ℕ → List Call → Row
+  -- the answers of the list that the plain course compares with its own
+  compares : List ℕ → List Call → List ℕ → Row
   -- what `rehearse` prints for a text and call lines
   rehearses : List ℕ → List ℕ → List ℕ → Row
 
@@ -89,6 +92,7 @@ passes (direct t c m s) =
     let l = library t in
     same (letters (joinedVector l (asRecorded l) c (record { class = c; method = bytes m } ∷ []))) (bytes s)
 passes (pairs t n ps) = eqb (length (image t)) n && same (take 32 (image t)) (flatMap u32Bytes ps)
+passes (images t ns) = same (image t) (flatMap u32Bytes ns)
 passes (finds t k s) = same (statementPart t k) (bytes s)
 passes (misses t k n) = eqb (numberOf (statementAnswer t k)) n && same (statementPart t k) []
 passes (compilesInto t k n) = eqb (numberOf (compileAnswer t k)) n
@@ -104,6 +108,7 @@ passes (agrees t cs) =
     let x = given t cs in
     let y = course t (startingValues (library t)) cs (x .0) in
     same (x .1) (y .fields) && every right (y .compared)
+passes (compares t cs vs) = same (map (λ y. y .got) (course t (startingValues (library t)) cs (given t cs .0) .compared)) vs
 passes (rehearses t cs s) = same (rehearsed t cs) s
 
 -- ---- the rows
@@ -113,6 +118,9 @@ abbrev starred : List Row
 starred =
     prints lanes (text ("run shot WN ny" ∷ "run plot NR yy" ∷ "lane shot WNW nyn" ∷ "lane plot NRN yyy" ∷ "lane tune NNW nyn" ∷ [])) ∷
     pairs lanes 152 (32 ∷ 40 ∷ 72 ∷ 40 ∷ 112 ∷ 20 ∷ 132 ∷ 20 ∷ []) ∷
+    images lanes
+    ((32 ∷ 40 ∷ 72 ∷ 40 ∷ 112 ∷ 20 ∷ 132 ∷ 20 ∷ []) ++ (50 ∷ 21 ∷ 88 ∷ 14 ∷ 148 ∷ 25 ∷ 174 ∷ 13 ∷ 204 ∷ 21 ∷ []) ++
+    (0 ∷ 1 ∷ 2 ∷ 0 ∷ 0 ∷ 5 ∷ 2 ∷ 0 ∷ 0 ∷ 4 ∷ []) ++ (2 ∷ 3 ∷ 2 ∷ 7 ∷ 2 ∷ []) ++ (0 ∷ 0 ∷ 0 ∷ 0 ∷ 0 ∷ [])) ∷
     prints figure1
     (text
     ("c1 m1 WRR nny" ∷ "c1 m2 WRN nny" ∷ "c1 m3 NRR yyy" ∷ "c2 m1 WRRWRN nnyy" ∷ "c2 m2 WRNWRN nnyy" ∷ "c2 m3 NRRNNN yyyy" ∷
@@ -160,11 +168,16 @@ vectors =
     prints circle (text ("a p WRW nnnn" ∷ "a q WRW nnnn" ∷ "a r WRW nnnn" ∷ "a s WRW nnnn" ∷ [])) ∷
     prints prefixed (text ("a m WN nn" ∷ "a n WN nn" ∷ "b m NW nn" ∷ "b n NW nn" ∷ "c m NNW nn" ∷ "c n NNW nn" ∷ [])) ∷ []
 
--- In `mixed` the methods of a and b are g 0 and h 1; the objects are one of a, one of b and another of a. A first send that gets 36
--- leaves its slot closed; one that gets 40 opens it.
+-- In `mixed` the methods of a and b are g 0 and h 1; the objects are one of a, one of b and another of a. They are visited in text order,
+-- those of a domain and those of a class. `got` is 0 where a method opens, sent or called. A first send that gets 36 leaves its slot
+-- closed; one that gets 40 opens it.
 abbrev machine : List Row
 machine =
     plays mixed (send 0 (to (domain 0) 0 3) ∷ replicate 12 (step 0)) (done ∷ replicate 11 going ++ (answer 18 ∷ [])) (8 ∷ 7 ∷ 3 ∷ 2 ∷ []) ∷
+    plays mixed (send 0 (to (domain 0) 0 3) ∷ replicate 4 (step 0)) (done ∷ replicate 4 going) (8 ∷ 7 ∷ 3 ∷ 4294967295 ∷ []) ∷
+    plays mixed (send 0 (to (class 0) 0 3) ∷ replicate 3 (step 0)) (done ∷ replicate 3 going) (8 ∷ 7 ∷ 0 ∷ 4294967295 ∷ []) ∷
+    plays echo (send 0 (to (object 0) 0 7) ∷ replicate 2 (step 0) ++ (send 0 (to (object 0) 1 7) ∷ replicate 5 (step 0)))
+    (done ∷ going ∷ answer 0 ∷ done ∷ going ∷ going ∷ going ∷ going ∷ answer 0 ∷ []) [] ∷
     plays mixed
     (send 8 (to (object 0) 1 0) ∷ step 6 ∷ send 7 (to (object 3) 0 0) ∷ send 7 (to (class 3) 0 0) ∷ send 7 (to (object 0) 2 0) ∷ abort 7 ∷
     send 7 (to (object 0) 1 0) ∷ abort 7 ∷ abort 7 ∷ [])
@@ -180,6 +193,10 @@ machine =
 abbrev additions : List Row
 additions =
     prints tally (text ("a count AN ynnnyn" ∷ "a look RN nynnnn" ∷ "a fix WN nnnnnn" ∷ "a twice WN nnnnnn" ∷ "a maybe AR ynnnyn" ∷ "a both WN nnnnnn" ∷ [])) ∷
+    images tally
+    ((32 ∷ 64 ∷ 96 ∷ 48 ∷ 144 ∷ 24 ∷ 168 ∷ 24 ∷ []) ++
+    (37 ∷ 9 ∷ 63 ∷ 7 ∷ 86 ∷ 9 ∷ 113 ∷ 7 ∷ 138 ∷ 14 ∷ 169 ∷ 22 ∷ 192 ∷ 19 ∷ 212 ∷ 9 ∷ []) ++
+    (0 ∷ 0 ∷ 1 ∷ 0 ∷ 0 ∷ 1 ∷ 0 ∷ 1 ∷ 2 ∷ 0 ∷ 0 ∷ 1 ∷ []) ++ (17 ∷ 2 ∷ 0 ∷ 0 ∷ 17 ∷ 0 ∷ []) ++ (1 ∷ 0 ∷ 0 ∷ 0 ∷ 1 ∷ 0 ∷ [])) ∷
     reads (text ("class a" ∷ "field x" ∷ "method m" ∷ "add y 1" ∷ "end" ∷ [])) 14 4 ∷
     reads (text ("class a" ∷ "field x" ∷ "method m" ∷ "add x" ∷ "end" ∷ [])) 12 4 ∷
     reads (text ("class a" ∷ "field x" ∷ "method m" ∷ "add x 1 1" ∷ "end" ∷ [])) 12 4 ∷
@@ -266,12 +283,18 @@ stops =
     plays long (send 0 (to (object 0) 1 0) ∷ replicate 1024 (step 0)) (done ∷ replicate 1023 going ++ (answer 0 ∷ [])) (961 ∷ []) ∷
     plays long (send 0 (to (object 0) 2 0) ∷ replicate 1025 (step 0)) (done ∷ replicate 1023 going ++ (stopped ∷ refuse 32 ∷ [])) (0 ∷ []) ∷ []
 
--- A list that leaves nothing open, against the plain course.
+-- A list that leaves nothing open, against the plain course; and what is compared of one in which slot 0 gets its answers before slot 1
+-- and commits after it, slot 2 aborts after an answer and is open in the end with another.
 abbrev courses : List Row
 courses =
     agrees mixed
     (send 0 (to (object 0) 0 1) ∷ send 1 (to (class 1) 0 2) ∷ step 0 ∷ step 1 ∷ step 1 ∷ step 0 ∷ step 1 ∷ step 1 ∷ step 0 ∷ step 1 ∷ step 1 ∷
-    commit 1 ∷ send 0 (to (domain 0) 0 4) ∷ replicate 12 (step 0) ++ (commit 0 ∷ send 0 (to (object 0) 0 7) ∷ step 0 ∷ abort 0 ∷ [])) ∷ []
+    commit 1 ∷ send 0 (to (domain 0) 0 4) ∷ replicate 12 (step 0) ++ (commit 0 ∷ send 0 (to (object 0) 0 7) ∷ step 0 ∷ abort 0 ∷ [])) ∷
+    compares mixed
+    (send 0 (to (object 0) 0 1) ∷ replicate 3 (step 0) ++ (send 0 (to (object 0) 1 0) ∷ step 0 ∷ step 0 ∷ send 1 (to (object 1) 1 0) ∷ step 1 ∷ step 1 ∷
+    send 2 (to (object 2) 0 2) ∷ replicate 3 (step 2)) ++
+    (commit 1 ∷ abort 2 ∷ commit 0 ∷ send 2 (to (object 2) 1 0) ∷ step 2 ∷ step 2 ∷ []))
+    (7 ∷ 6 ∷ 6 ∷ []) ∷ []
 
 -- 51 for a line of another form and for a last line without LF, 36 for an unknown name, 40 with its slot, 37 until the line wakes, 42;
 -- 31, 37 and 34 before an unknown name, and the values as an open transaction left them; a faulty text; no input.
@@ -319,7 +342,7 @@ unfolding every passes text diamond circle prefixed
 vectors-pass = refl
 
 machine-pass : Passing machine
-unfolding every passes mixed
+unfolding every passes mixed echo
 machine-pass = refl
 
 additions-pass : Passing additions

@@ -3,7 +3,9 @@ pub mod Course
 pub mod Moment
 pub mod Example
 pub mod Made
+pub mod Open
 pub mod PlainCourse
 pub mod Seen
 pub mod Line
 pub mod Steps
+pub mod Played

@@ -1,34 +1,38 @@
 -- Ticket 7 over what the entries answered and left: what is promised of the line, after any list of calls.
 use Prim.Native.Nat.{ℕ, _≤_, _<_}
 use native.Mathlib.Omega.{arith}
-use native.Mathlib.Decide.{decLt}
-use mathlib.Core.Path.{_≡_, refl, sym, ap, _∙_}
+use native.Mathlib.Decide.{decLt, ℕ-discrete}
+use mathlib.Core.Path.{_≡_, refl, sym, ap, subst, _∙_}
 use mathlib.Core.Logic.{_⊎_, inl, inr, ⊎-elim}
 use mathlib.Core.Bool.{Bool, true, false, not, _&&_, true≢false}
 use mathlib.Core.Option.{some}
 use mathlib.Core.List.{List, map, List·Memᴰ}
 use lib.Dec.{eqb, ltb}
-use borrow.Author.Tests.{eqb-true, eq-eqb, ltb-true}
+use borrow.Author.Tests.{eqb-true, ltb-true}
 use Rattle.model.specs.Base.{any}
 use Rattle.model.specs.Read.{library}
 use Rattle.model.specs.Vector.{Program}
-use Rattle.model.specs.Message.{Message}
-use Rattle.model.specs.Service.{held, Slot, closed, World, Waiter, fresh, heldBy, waits, inTheWay, inRange, startCourse}
+use Rattle.model.specs.Message.{Message, begun}
+use Rattle.model.specs.Service.{held, Slot, closed, opened, World, Waiter, fresh, heldBy, waits, inTheWay, inRange, startCourse}
 use Rattle.model.specs.Lock.{locksFor, locksClash}
-use Rattle.model.specs.Machine.{Call, Request, send, service, find, call}
-use Rattle.laws.specs.Lists.{both-left, both-right, either-cases, any-member, member-any}
+use Rattle.model.specs.Machine.{Call, Request, send, abort, service, find, call}
+use Rattle.laws.specs.Basics.{All}
+use Rattle.laws.specs.Lists.{both-left, both-right, either-cases, any-member}
 use Rattle.twophase.specs.Laws.{Laws}
+use Rattle.twophase.specs.Line.{open-closed}
 use Rattle.twophase.specs.Theorem.{start-known, both-keeps}
 use Rattle.twophase.specs.Waiting.{Promised}
 use Rattle.twophase.specs.Waiting as Model
+use Rattle.twophase.specs.InTime.{Runs}
 use Rattle.vector_theory.specs.VectorLaws.{program-compiled}
 use Rattle.theory.specs.ServiceLaws.{laws}
 use Rattle.theory.specs.CommitOrder.{left, both-is}
-use Rattle.theory.specs.Waiting.{line-promises}
+use Rattle.theory.specs.Waiting.{line-promises, starts-promise}
 use Rattle.machine_words.specs.Line.{countIn, firstInLine}
-use Rattle.machine_words.specs.Calls.{Lent, rowOf, phaseOf}
-use Rattle.machine_refinement.specs.Rep.{Rep}
-use Rattle.machine_refinement.specs.State.{phase-closed}
+use Rattle.machine_words.specs.Calls.{Lent, tablesOf, rowOf, phaseOf}
+use Rattle.machine_refinement.specs.Rep.{runOf, NowRep, SlotRep, settled, Rep}
+use Rattle.machine_refinement.specs.State.{row-size}
+use Rattle.machine_refinement.specs.WaitRows.{withdrawn-phase, settled-ready, settled-waits}
 use Rattle.machine_words.specs.declared.Outcome.{Outcome}
 use Rattle.machine_words.specs.Said.{told}
 use Rattle.cishmolaq.specs.declared.Answer as Start
@@ -36,49 +40,65 @@ use Rattle.model.specs.Told as Entry
 use Rattle.cishmolaq.specs.Answers.{said, Begins}
 use Rattle.cishmolaq.specs.Promises.{Does}
 use Rattle.guarantees.specs.Made.{Made, none, then}
+use Rattle.guarantees.specs.Open.{ClosedIn, OpenIn, WaitingIn, closed-slot, slot-closed, waiting-slot, phase-waits, waits-phase}
 use Rattle.guarantees.specs.PlainCourse.{programOf, made-rep}
 
 -- ---- moments of a list of calls
 
--- P holds of the words before the calls or after one of them.
-abbrev pub Sometime : {x y : Lent} {cs : List Call} {rs : List Outcome} → (List ℕ → Type 0) → Made x cs rs y → Type 0
-Sometime P (none {x = x}) = P (x .words)
-Sometime P (then {x = x} d m) = P (x .words) ⊎ Sometime P m
+-- P holds of what is lent before the calls or after one of them.
+abbrev pub Sometime : {x y : Lent} {cs : List Call} {rs : List Outcome} → (Lent → Type 0) → Made x cs rs y → Type 0
+Sometime P (none {x = x}) = P x
+Sometime P (then {x = x} d m) = P x ⊎ Sometime P m
 
 -- Slot j is closed at some moment, and slot s does not wait at some moment.
 abbrev pub Closes : {x y : Lent} {cs : List Call} {rs : List Outcome} → ℕ → Made x cs rs y → Type 0
-Closes j m = Sometime (λ ws. phaseOf (rowOf ws j) ≡ 0) m
+Closes j m = Sometime (λ l. ClosedIn l j) m
 
 abbrev pub Leaves : {x y : Lent} {cs : List Call} {rs : List Outcome} → ℕ → Made x cs rs y → Type 0
-Leaves s m = Sometime (λ ws. phaseOf (rowOf ws s) ≡ 3 → ⊥) m
+Leaves s m = Sometime (λ l. WaitingIn l s → ⊥) m
 
--- The moments of the words are those of the worlds that they represent.
-module _ (p : Program) (P : World (service p) → Type 0) (Q : List ℕ → Type 0) where
-  to-world : ((x : Lent) (w : World (service p)) → Rep x p w → Q (x .words) → P w)
+-- The moments of what is lent are those of the worlds that it represents.
+module _ (p : Program) (P : World (service p) → Type 0) (Q : Lent → Type 0) where
+  to-world : ((x : Lent) (w : World (service p)) → Rep x p w → Q x → P w)
       → {x y : Lent} {cs : List Call} {rs : List Outcome} (m : Made x cs rs y)
       (w : World (service p)) → Rep x p w → Sometime Q m → Model.Sometime (service p) P w cs
   to-world f (none {x = x}) w rep h = f x w rep h
   to-world f (then {x = x} d m) w rep (inl h) = inl (f x w rep h)
   to-world f (then {c = c} d m) w rep (inr h) = inr (to-world f m (call p w c .1) (d .next p w rep) h)
 
-  from-world : ((x : Lent) (w : World (service p)) → Rep x p w → P w → Q (x .words))
+  from-world : ((x : Lent) (w : World (service p)) → Rep x p w → P w → Q x)
       → {x y : Lent} {cs : List Call} {rs : List Outcome} (m : Made x cs rs y)
       (w : World (service p)) → Rep x p w → Model.Sometime (service p) P w cs → Sometime Q m
   from-world f (none {x = x}) w rep h = f x w rep h
   from-world f (then {x = x} d m) w rep (inl h) = inl (f x w rep h)
   from-world f (then {c = c} d m) w rep (inr h) = inr (from-world f m (call p w c .1) (d .next p w rep) h)
 
--- ---- who waits
+-- ---- who runs
 
--- A slot's phase is 3 exactly if the slot waits in the world that the words represent.
-module _ (x : Lent) (p : Program) (w : World (service p)) (rep : Rep x p w) (s : ℕ) where
-  phase-waits : s < 8 → phaseOf (rowOf (x .words) s) ≡ 3 → waits (service p) (w .line) s ≡ true
-  phase-waits h e = let (v, i, q) = rep .waiting s h e in member-any (λ (v : Waiter (service p)). eqb (v .slot) s) i (eq-eqb (v .slot) s q)
+-- A message runs in slot s, and it is this one, at its start.
+pub record Starting (p : Program) (s : ℕ) (m : Message) (x : Lent) : Type 0 where
+  pub phase : phaseOf (rowOf (x .words) s) ≡ 2
+  pub run : runOf (x .text) p (rowOf (x .words) s) ≡ begun p m
 
-  waits-phase : waits (service p) (w .line) s ≡ true → phaseOf (rowOf (x .words) s) ≡ 3
-  waits-phase e =
-      let (v, i, q) = any-member (λ (v : Waiter (service p)). eqb (v .slot) s) (w .line) e in
-      ap (λ (t : ℕ). phaseOf (rowOf (x .words) t)) (sym (eqb-true (v .slot) s q)) ∙ rep .waits v i .phase
+-- It is so where it is so in the world that the words represent.
+runs-starting : (x : Lent) (p : Program) (w : World (service p)) → Rep x p w → (s : ℕ) → s < 8 → (m : Message)
+    → Runs (service p) w (record { slot = s; message = m }) → Starting p s m x
+runs-starting x p w rep s h m r = go (ℕ-discrete (phaseOf (rowOf (x .words) s)) 3)
+  where
+    row : List ℕ
+    row = rowOf (x .words) s
+
+    stands : SlotRep (x .text) (tablesOf (x .words)) p (settled row) (opened (r .transaction))
+    stands = subst (SlotRep (x .text) (tablesOf (x .words)) p (settled row)) (r .is-open) (rep .slots s h)
+
+    now : NowRep (x .text) (tablesOf (x .words)) p (settled row) (some (begun p m))
+    now = subst (NowRep (x .text) (tablesOf (x .words)) p (settled row)) (r .runs) (stands .now)
+
+    go : Dec (phaseOf row ≡ 3) → Starting p s m x
+    go (no ne) =
+        let same = settled-ready row ne in
+        record { phase = sym (ap phaseOf same) ∙ now .0; run = ap (runOf (x .text) p) (sym same) ∙ sym (now .1) }
+    go (yes e) = absurd (omega (arith, now .0, ap phaseOf (settled-waits row e), withdrawn-phase row (row-size x p w rep s h)))
 
 -- ---- the promises
 
@@ -94,12 +114,20 @@ pub record InLine (text values : List ℕ) (cs : List Call) (z : Lent) : Type 0 
   -- What is promised of that line: nothing waits that could start, each send starts in time, and none is overtaken.
   pub promised : Promised (service (programOf text)) (left (programOf text) values cs)
   -- "A waiting send starts no later than the call that ends the last transaction it clashes with among those holding locks or ahead in
-  -- line", by the words: a send with 40 waits no more once each slot that it clashed with has closed.
+  -- line", by the answers: a send with 40 waits no more once each slot that it clashed with has closed ..
   pub in-time : (s : ℕ) (q : Request) (m : Message) (k : ℕ) → find (programOf text) q ≡ some m
       → {r : Outcome} {z₁ : Lent} → Does z (send s q) r z₁ → told r ≡ held k
       → {ds : List Call} {rs : List Outcome} {z₂ : Lent} (more : Made z₁ ds rs z₂)
       → ((j : ℕ) → j < 8 → inTheWay (service (programOf text)) (left (programOf text) values cs .slots) (left (programOf text) values cs .line) s m j ≡ true → Closes j more)
       → Leaves s more
+  -- .. and its message is at its start by then, unless its slot aborts.
+  pub starts-in-time : (s : ℕ) (q : Request) (m : Message) (k : ℕ) → find (programOf text) q ≡ some m
+      → {r : Outcome} {z₁ : Lent} → Does z (send s q) r z₁ → told r ≡ held k
+      → {ds : List Call} {rs : List Outcome} {z₂ : Lent} (more : Made z₁ ds rs z₂) → All (λ c. c ≡ abort s → ⊥) ds
+      → ((j : ℕ) → j < 8 → inTheWay (service (programOf text)) (left (programOf text) values cs .slots) (left (programOf text) values cs .line) s m j ≡ true → Closes j more)
+      → Sometime (Starting (programOf text) s m) more
+  -- "whenever some transaction is open, at least one isn't waiting" (02, Ticket 8), by the answers.
+  pub goes-on : (t : ℕ) → OpenIn z t → (s : ℕ) × OpenIn z s × (WaitingIn z s → ⊥)
 
 module _ (text values : List ℕ) (cs : List Call) where
   abbrev p : Program
@@ -158,13 +186,16 @@ line-seen x r y begins e {cs} {rs} {z} made =
       in-time = λ s q m k f d a {ds} more clashing.
           let says : call p₀ w₀ (send s q) .0 ≡ held k = sym (d .says p₀ w₀ rep) ∙ a in
           let low = held-below text values cs s q k says in
-          let next = d .next p₀ w₀ rep in
-          from-world p₀ (λ u. waits (service p₀) (u .line) s ≡ false) (λ l. phaseOf (rowOf l s) ≡ 3 → ⊥)
-          (λ l u t n b. true≢false (sym (phase-waits l p₀ u t s low b) ∙ n)) more (call p₀ w₀ (send s q) .1) next
-          (promised .in-time s q m k f says ds (λ j way.
-          let few = way-below text values cs s m j (rep .below) way in
-          to-world p₀ (λ u. u .slots j ≡ closed) (λ l. phaseOf (rowOf l j) ≡ 0) (λ l u t. phase-closed l p₀ u t j few)
-          more (call p₀ w₀ (send s q) .1) next (clashing j few way)));
+          from-world p₀ (λ u. waits (service p₀) (u .line) s ≡ false) (λ l. WaitingIn l s → ⊥)
+          (λ l u t n b. true≢false (sym (waiting-slot l p₀ u t s low b) ∙ n)) more (call p₀ w₀ (send s q) .1) (d .next p₀ w₀ rep)
+          (promised .in-time s q m k f says ds (ends s m more (call p₀ w₀ (send s q) .1) (d .next p₀ w₀ rep) clashing));
+      starts-in-time = λ s q m k f d a {ds} more away clashing.
+          let says : call p₀ w₀ (send s q) .0 ≡ held k = sym (d .says p₀ w₀ rep) ∙ a in
+          let low = held-below text values cs s q k says in
+          from-world p₀ (λ u. Runs (service p₀) u (record { slot = s; message = m })) (Starting p₀ s m)
+          (λ l u t. runs-starting l p₀ u t s low m) more (call p₀ w₀ (send s q) .1) (d .next p₀ w₀ rep)
+          (starts-promise text values cs s q m k f says ds away (ends s m more (call p₀ w₀ (send s q) .1) (d .next p₀ w₀ rep) clashing));
+      goes-on = λ t o. by-slot t (w₀ .slots t) refl (λ c. o .1 (slot-closed z p₀ w₀ rep t (o .0) c));
     }
   where
     text : List ℕ
@@ -184,3 +215,20 @@ line-seen x r y begins e {cs} {rs} {z} made =
 
     promised : Promised (service p₀) w₀
     promised = line-promises text values cs
+
+    -- Each slot that the send clashed with closes in the world, where it does by the answers.
+    ends : (s : ℕ) (m : Message) {x₁ x₂ : Lent} {ds : List Call} {ss : List Outcome} (more : Made x₁ ds ss x₂) (w₁ : World (service p₀)) → Rep x₁ p₀ w₁
+        → ((j : ℕ) → j < 8 → inTheWay (service p₀) (w₀ .slots) (w₀ .line) s m j ≡ true → Closes j more)
+        → (j : ℕ) → inTheWay (service p₀) (w₀ .slots) (w₀ .line) s m j ≡ true → Model.Closes (service p₀) j w₁ ds
+    ends s m more w₁ next clashing j way =
+        let few = way-below text values cs s m j (rep .below) way in
+        to-world p₀ (λ u. u .slots j ≡ closed) (λ l. ClosedIn l j) (λ l u t. closed-slot l p₀ u t j few) more w₁ next (clashing j few way)
+
+    by-slot : (t : ℕ) (u : Slot (service p₀)) → w₀ .slots t ≡ u → (w₀ .slots t ≡ closed → ⊥) → (s : ℕ) × OpenIn z s × (WaitingIn z s → ⊥)
+    by-slot t closed e o = absurd (o e)
+    by-slot t (opened u) e o =
+        let (s, is, still) = promised .someone-goes-on t u e in (
+          s,
+          (is .2, λ c. open-closed (service p₀) (is .0) (sym (is .1) ∙ closed-slot z p₀ w₀ rep s (is .2) c)),
+          λ b. true≢false (sym (waiting-slot z p₀ w₀ rep s (is .2) b) ∙ still),
+        )

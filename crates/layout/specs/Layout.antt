@@ -220,13 +220,9 @@ lockMarksAt = 10
 abbrev pub calledAt : ℕ
 calledAt = 11
 
--- Words 12 and 15 are spare, and in a row 13 and 14 too: a waiting send's words have the class with its method and the method's place
--- there.
+-- Words 12, 13 and 15 are spare, and in a row 14 too: a waiting send's words have the method's place in its class there.
 abbrev pub headSpareAt : ℕ
 headSpareAt = 12
-
-abbrev pub classAt : ℕ
-classAt = 13
 
 abbrev pub placeAt : ℕ
 placeAt = 14

@@ -157,11 +157,8 @@ pub const LOCK_MARKS_AT: usize = 10;
 // 1 where a self-call was made.
 pub const CALLED_AT: usize = 11;
 
-// Words 12 and 15 are spare, and in a row 13 and 14 too: a waiting send's words have the class with its method and the method's place
-// there.
+// Words 12, 13 and 15 are spare, and in a row 14 too: a waiting send's words have the method's place in its class there.
 pub const HEAD_SPARE_AT: usize = 12;
-
-pub const CLASS_AT: usize = 13;
 
 pub const PLACE_AT: usize = 14;
 

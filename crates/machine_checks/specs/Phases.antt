@@ -9,10 +9,10 @@ use lib.Seq.{getD-take, getD-drop}
 use lib.Dec.{eqb, leb, ltb, eqb·suc-zero}
 use lib.ListN.{drop}
 use borrow.Author.Tests.{eq-eqb, ne-eqb, leb-false, ltb-true, ltb-false, lt-ltb, le-ltb, lt-leb, le-leb, eqb-true, eqb-false}
-use Rattle.layout.specs.Layout.{valuesMost, valueCountAt, textLengthAt, startMarkAt, tableWords, rowWords, stateWords}
+use Rattle.layout.specs.Layout.{classesMost, statementsMost, objectsMost, valuesMost, slotsMost, classCountAt, statementCountAt, objectCountAt, valueCountAt, textLengthAt, startMarkAt, tableWords, rowWords, lineAt, stateWords}
 use Rattle.model.specs.Service.{Call}
 use Rattle.model.specs.Machine.{Request}
-use Rattle.machine_words.specs.Calls.{Lent, After, mark, rowStart, rowOf, phaseOf, misfitOf, refused, onClosed, onIdle, onRunning, onWaiting, slotIn, byPhase, called}
+use Rattle.machine_words.specs.Calls.{Lent, After, mark, rowStart, rowOf, phaseOf, misfitOf, refused, onClosed, onIdle, onRunning, onWaiting, slotIn, byPhase, called, isCounted}
 use Rattle.machine_words.specs.Rows.{fit-is}
 use Rattle.machine_words.specs.declared.Outcome.{Outcome}
 use Rattle.machine_checks.specs.Told.{Leaves}
@@ -27,19 +27,26 @@ firstRefusal x s =
 
 -- ---- 21, 24
 
+-- The counts within their limits, by what was read.
+pub counted-by : (ws : List ℕ) (c s o n : ℕ) → c ≡ getD ws classCountAt 0 → s ≡ getD ws statementCountAt 0 → o ≡ getD ws objectCountAt 0 → n ≡ getD ws lineAt 0
+    → (leb c classesMost && leb s statementsMost && leb o objectsMost && leb n slotsMost) ≡ isCounted ws
+unfolding isCounted
+counted-by ws c s o n p q r t = rw (p, q, r, t)
+
 module _ (x : Lent) where
   pub misfit-short : length (x .words) < stateWords → 21 ≡ misfitOf x
   unfolding misfitOf
   misfit-short h = rw (lt-ltb (length (x .words)) stateWords h)
 
-  module _ (l : stateWords ≤ length (x .words)) (m t n : ℕ) (p : m ≡ getD (x .words) startMarkAt 0) (q : t ≡ getD (x .words) textLengthAt 0) (r : n ≡ getD (x .words) valueCountAt 0) where
-    pub misfit-none : (eqb m mark && eqb t (length (x .text)) && eqb n (length (x .values)) && leb (length (x .values)) valuesMost) ≡ true → 0 ≡ misfitOf x
-    unfolding misfitOf
-    misfit-none b = rw (le-ltb (length (x .words)) stateWords l, ← p, ← q, ← r, b)
+  module _ (l : stateWords ≤ length (x .words)) (m t n : ℕ) (c : Bool) (p : m ≡ getD (x .words) startMarkAt 0) (q : t ≡ getD (x .words) textLengthAt 0)
+      (r : n ≡ getD (x .words) valueCountAt 0) (d : c ≡ isCounted (x .words)) where
+    -- The tests as the code makes them.
+    abbrev tests : Bool
+    tests = eqb m mark && eqb t (length (x .text)) && eqb n (length (x .values)) && leb (length (x .values)) valuesMost && c
 
-    pub misfit-other : (eqb m mark && eqb t (length (x .text)) && eqb n (length (x .values)) && leb (length (x .values)) valuesMost) ≡ false → 24 ≡ misfitOf x
+    pub misfit-by : (b : Bool) → tests ≡ b → cond b 0 24 ≡ misfitOf x
     unfolding misfitOf
-    misfit-other b = rw (le-ltb (length (x .words)) stateWords l, ← p, ← q, ← r, b)
+    misfit-by b e = rw (le-ltb (length (x .words)) stateWords l, ← p, ← q, ← r, ← d) (ap (λ (y : Bool). cond y 0 24) (sym e))
 
 -- ---- 31, and 24 by the phase
 

@@ -1,7 +1,17 @@
 // What every call tests first (01, "The machine") on the lent text, state and values.
 ghost use mathlib.Core.Path.{_≡_};
-ghost use Rattle.machine_words.specs.Calls.{lending, rowOf, phaseOf, misfitOf};
+ghost use Rattle.machine_words.specs.Calls.{lending, rowOf, phaseOf, misfitOf, isCounted};
 ghost use Rattle.machine_checks.specs.Phases.{firstRefusal, idleRefusal};
+
+// Whether the counts of classes, statements, objects and waiting slots are within their limits.
+fn is_counted(state: &[u32]) -> bool
+    ensures { λ r. ⌜ r ≡ isCounted (now (state .entry)) ⌝ }
+{
+    (memory::get(state, layout::CLASS_COUNT_AT) <= layout::CLASSES)
+        & (memory::get(state, layout::STATEMENT_COUNT_AT) <= layout::STATEMENTS)
+        & (memory::get(state, layout::OBJECT_COUNT_AT) <= layout::OBJECTS)
+        & (memory::get(state, layout::LINE_AT) <= layout::SLOTS)
+}
 
 // 21 or 24 where what is lent does not fit; else 0.
 fn misfit(text: &[u8], state: &[u32], values: &[u32]) -> u32
@@ -14,6 +24,7 @@ fn misfit(text: &[u8], state: &[u32], values: &[u32]) -> u32
         & (memory::get(state, layout::TEXT_LENGTH_AT) as usize == text.len())
         & (memory::get(state, layout::VALUE_COUNT_AT) as usize == values.len())
         & (values.len() <= layout::VALUES)
+        & is_counted(state)
     {
         return 0;
     }

@@ -17,13 +17,13 @@ use Rattle.laws.specs.Basics.{at-or}
 use Rattle.laws.specs.Leads.{leads-same}
 use Rattle.laws.specs.Bits.{bit, bit-zero, bit-or, bit-shifted}
 use Rattle.machine_words.specs.Request.{Wanted}
-use Rattle.machine_words.specs.Line.{rowOf, waitingIn, wantedIn, countIn, slotAt, inTheWay, waitsFrom, waitsFor, closesCircle}
+use Rattle.machine_words.specs.Line.{rowOf, waitingIn, wantedIn, isWaiting, waitingSend, countIn, slotAt, inTheWay, waitsFrom, waitsFor, closesCircle}
 use Rattle.machine_conflicts.specs.Way.{gathered, gather, pass}
 
--- Whether slot u stands at a place of the line, and slot t is in the way of its waiting send.
+-- Whether slot u stands at a place of the line and waits, and slot t is in the way of its waiting send.
 unfoldable pub waitsHere : List ℕ → List ℕ → ℕ → ℕ → ℕ → Bool
-unfolding inTheWay rowOf waitingIn wantedIn
-waitsHere text ws place u t = eqb (slotAt ws place) u && inTheWay text ws place u (wantedIn (waitingIn (rowOf ws u))) t
+unfolding isWaiting inTheWay rowOf waitingIn wantedIn
+waitsHere text ws place u t = eqb (slotAt ws place) u && (isWaiting ws u && inTheWay text ws place u (waitingSend ws u) t)
 
 -- The relation that masks hold.
 abbrev pub relation : List ℕ → ℕ → ℕ → Bool
@@ -125,17 +125,26 @@ module _ (masks : List ℕ) (long : length masks ≡ 8) (r : ℕ → ℕ → Boo
 
 module _ (text ws : List ℕ) (place : ℕ) (masks : List ℕ) (long : length masks ≡ 8) (s : ℕ) (e : s ≡ slotAt ws place) where
   abbrev blockedBy : ℕ → ℕ → Bool
-  blockedBy u = inTheWay text ws place u (wantedIn (waitingIn (rowOf ws u)))
+  blockedBy u t = isWaiting ws u && inTheWay text ws place u (waitingSend ws u) t
 
-  pub waits-no-slot : 8 ≤ s → Adds (waitsHere text ws place) masks masks
-  unfolding waitsHere
-  waits-no-slot h = adds-none masks long (waitsHere text ws place) (λ u t a b. ap (λ (x : Bool). x && blockedBy u t) (ne-eqb (slotAt ws place) u (λ q. omega arith)))
+  module _ (b : Bool) (w : b ≡ isWaiting ws s) where
+    pub waits-not : b ≡ false → Adds (waitsHere text ws place) masks masks
+    unfolding waitsHere
+    waits-not z = adds-none masks long (waitsHere text ws place) (λ u t l k. go u t (ℕ-discrete (slotAt ws place) u))
+      where
+        go : (u t : ℕ) → Dec (slotAt ws place ≡ u) → (eqb (slotAt ws place) u && blockedBy u t) ≡ false
+        go u t (yes q) =
+            rw (eq-eqb (slotAt ws place) u q) (ap (λ (x : Bool). x && inTheWay text ws place u (waitingSend ws u) t) (ap (isWaiting ws) (sym q ∙ sym e) ∙ sym w ∙ z))
+        go u t (no ne) = ap (λ (x : Bool). x && blockedBy u t) (ne-eqb (slotAt ws place) u ne)
 
-  pub waits-slot : s < 8 → (mask : ℕ) → mask ≡ gathered (blockedBy s) 8 → (new : List ℕ) → new ≡ withMask masks s mask → Adds (waitsHere text ws place) masks new
-  unfolding waitsHere
-  waits-slot h mask m new n =
-      subst (λ (k : ℕ). Adds (λ u t. eqb k u && blockedBy u t) masks new) e
-      (adds-one masks long blockedBy s mask h (λ t b. ap (λ (x : ℕ). bit x t) m ∙ bit-gathered (blockedBy s) 8 t (omega arith) b) new n)
+    pub waits-slot : b ≡ true → s < 8 → (mask : ℕ) → mask ≡ gathered (inTheWay text ws place s (waitingSend ws s)) 8 → (new : List ℕ)
+        → new ≡ withMask masks s mask → Adds (waitsHere text ws place) masks new
+    unfolding waitsHere
+    waits-slot z h mask m new n =
+        subst (λ (k : ℕ). Adds (λ u t. eqb k u && blockedBy u t) masks new) e
+        (adds-one masks long blockedBy s mask h
+        (λ t l. ap (λ (x : ℕ). bit x t) m ∙ bit-gathered (inTheWay text ws place s (waitingSend ws s)) 8 t (omega arith) l
+        ∙ ap (λ (x : Bool). x && inTheWay text ws place s (waitingSend ws s) t) (sym z ∙ w)) new n)
 
 -- The masks with the waits of the slots before a place: with those that are left they are all.
 pub record Adding (text ws : List ℕ) (count : ℕ) (old : List ℕ) (place : ℕ) (masks : List ℕ) : Type 0 where

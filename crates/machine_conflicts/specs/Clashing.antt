@@ -53,7 +53,7 @@ meets-none : (m : ℕ) → meets 0 m ≡ false
 unfolding meets
 meets-none m = ap (λ (n : ℕ). not (eqb n 0)) (and-zero-l (4294967295 - m))
 
-few-members : (tables : List ℕ) (k p : ℕ) → memberCount tables k p ≤ 32
+pub few-members : (tables : List ℕ) (k p : ℕ) → memberCount tables k p ≤ 32
 unfolding memberCount
 few-members tables k p = omega arith
 

@@ -15,7 +15,7 @@ use Rattle.model.specs.Base.{digit, any}
 use Rattle.laws.specs.Lists.{both-left, both-right}
 use Rattle.catalog.specs.Bodies.{namedAt}
 use Rattle.machine_words.specs.Request.{Wanted, meets, rowMeets}
-use Rattle.machine_words.specs.Line.{tablesOf, rowStart, rowOf, phaseOf, countIn, firstInLine, holderAt, waiterAt, blocks, inTheWay}
+use Rattle.machine_words.specs.Line.{tablesOf, rowStart, rowOf, phaseOf, countIn, firstInLine, waitsAhead, holderAt, waiterAt, blocks, inTheWay}
 use Rattle.machine_words.specs.Rows.{waiting-part}
 use Rattle.machine_words.specs.Meeting.{meets-or}
 use Rattle.machine_conflicts.specs.Clashing.{heldAt, holdsOne, conflictsOf, meets-object, meets-class}
@@ -45,7 +45,7 @@ module _ (ws : List ℕ) (test : List ℕ → Bool) (t : ℕ) where
     unfolding holderAt
     open-holds z = rw (← p, ne-eqb f 0 z) (ap test (part-is ws t))
 
-  module _ (n : ℕ) (b : Bool) (p : b ≡ any (eqb t) (firstInLine ws n)) where
+  module _ (n : ℕ) (b : Bool) (p : b ≡ waitsAhead ws n t) where
     pub behind-waits : b ≡ false → false ≡ waiterAt ws n test t
     unfolding waiterAt
     behind-waits z = rw (← p, z)
@@ -55,8 +55,8 @@ module _ (ws : List ℕ) (test : List ℕ → Bool) (t : ℕ) where
     ahead-waits z =
         let k : rowStart t + waitingAt + waitingWords - (rowStart t + waitingAt) ≡ waitingWords = omega arith in
         rw (← p, z, k) (ap test (waiting-part ws t))
-    -- A holder is in the way, whether it waits or not.
 
+  -- A holder is in the way, whether it waits or not.
   pub holder-blocks : (n : ℕ) (b : Bool) → b ≡ holderAt ws test t → b ≡ true → true ≡ blocks ws n test t
   holder-blocks n b e z = rw (← e, z)
 

@@ -1,6 +1,7 @@
 // Circles of waits: the slots that each waiting slot waits for, as eight masks, and those that it leads to by way of others. Bit t of mask s
 // is 1 where slot s waits for slot t.
 use super::clash::clashing;
+use super::line::is_waiting;
 use super::line::slot_at;
 use super::line::waiting_count;
 use super::line::wanted_in;
@@ -10,7 +11,7 @@ ghost use mathlib.Core.Path.{_≡_};
 ghost use lib.ListN.{length};
 ghost use Rattle.layout.specs.Layout.{stateWords};
 ghost use Rattle.model.specs.Base.{leads};
-ghost use Rattle.machine_words.specs.Line.{rowOf, waitingIn, wantedIn, inTheWay, waitsFrom, closesCircle};
+ghost use Rattle.machine_words.specs.Line.{inTheWay, waitsFrom, closesCircle, waitingSend};
 ghost use Rattle.machine_words.specs.Said.{asked};
 ghost use Rattle.machine_checks.specs.Lent.{Within};
 ghost use Rattle.machine_conflicts.specs.Way.{gathered};
@@ -19,11 +20,11 @@ ghost use Rattle.machine_conflicts.specs.Circle.{waitsHere, relation, Re
 // The slots in the way of the waiting send of a slot that has so many ahead of it.
 fn waits_for(text: &[u8], state: &[u32], ahead: u32, slot: u32) -> u32
     requires { ⌜ Within (now state) slot × (ahead ≤ 8) ⌝ }
-    ensures { λ r. ⌜ r ≡ gathered (inTheWay (now (text .entry)) (now (state .entry)) ahead slot (wantedIn (waitingIn (rowOf (now (state .entry)) slot)))) 8 ⌝ }
+    ensures { λ r. ⌜ r ≡ gathered (inTheWay (now (text .entry)) (now (state .entry)) ahead slot (waitingSend (now (state .entry)) slot)) 8 ⌝ }
 {
     let start = layout::TABLE_WORDS + slot as usize * layout::ROW_WORDS + layout::WAITING_AT;
     let end = start + layout::WAITING_WORDS;
-    let wanted = wanted_in(&state[start..end]);
+    let wanted = wanted_in(&state[0..layout::TABLE_WORDS], &state[start..end]);
     clashing(text, state, ahead, slot, wanted)
 }
 
@@ -35,13 +36,13 @@ fn add_mask(masks: &mut [u32], slot: u32, mask: u32)
     memory::put(masks, slot as usize, old | mask);
 }
 
-// Adds the slots that the one at a place of the line waits for.
+// Adds the slots that the one at a place of the line waits for; none where it does not wait.
 fn add_waits(text: &[u8], state: &[u32], place: u32, masks: &mut [u32])
     requires { ⌜ (stateWords ≤ length (now state)) × (place ≤ 8) × (length (now masks) ≡ 8) ⌝ }
     ensures { λ _. ⌜ Adds (waitsHere (now (text .entry)) (now (state .entry)) place) (now (masks .entry)) (now (masks .exit)) ⌝ }
 {
     let slot = slot_at(state, place);
-    if layout::SLOTS <= slot {
+    if !is_waiting(state, slot) {
         return;
     }
     let mask = waits_for(text, state, place, slot);

@@ -1,6 +1,6 @@
 // What is in the way of a send: the locks of a row that clash with it, and the slots that hold them or wait for them ahead of it, as a
 // mask. The rules are in crates/machine_words/specs/Request.antt and Line.antt.
-use super::line::is_ahead;
+use super::line::waits_ahead;
 use machine_words::Wanted;
 ghost use mathlib.Core.Path.{_≡_};
 ghost use Rattle.machine_words.specs.Request.{inDomain, lacks, lacking, rowMeets};
@@ -147,12 +147,12 @@ fn is_holder(state: &[u32], slot: u32, word: usize, class: u32, methods: u32) ->
     holds(&state[start..end], word, class, methods)
 }
 
-// Whether the slot is one of the first in line, and its waiting send has such a lock.
+// Whether the slot is one of the first in line and waits, and its waiting send has such a lock.
 fn is_waiter(state: &[u32], ahead: u32, slot: u32, word: usize, class: u32, methods: u32) -> bool
     requires { ⌜ Within (now state) slot × (ahead ≤ 8) ⌝ }
     ensures { λ r. ⌜ r ≡ waiterAt (now (state .entry)) ahead (lockTest word class methods) slot ⌝ }
 {
-    if !is_ahead(state, ahead, slot) {
+    if !waits_ahead(state, ahead, slot) {
         return false;
     }
     let start = layout::TABLE_WORDS + slot as usize * layout::ROW_WORDS + layout::WAITING_AT;
@@ -246,12 +246,12 @@ fn domain_holder(text: &[u8], state: &[u32], wanted: Wanted, other: u32) -> bool
     )
 }
 
-// Whether a slot is one of the first in line, and its waiting send's locks are in the way of a send to a domain.
+// Whether a slot is one of the first in line and waits, and its waiting send's locks are in the way of a send to a domain.
 fn domain_waiter(text: &[u8], state: &[u32], ahead: u32, wanted: Wanted, other: u32) -> bool
     requires { ⌜ Within (now state) other × (ahead ≤ 8) × (2 ≤ wanted .kind) ⌝ }
     ensures { λ r. ⌜ r ≡ waiterAt (now (state .entry)) ahead (rowMeets (now (text .entry)) (tablesOf (now (state .entry))) (asked wanted)) other ⌝ }
 {
-    if !is_ahead(state, ahead, other) {
+    if !waits_ahead(state, ahead, other) {
         return false;
     }
     let start = layout::TABLE_WORDS + other as usize * layout::ROW_WORDS + layout::WAITING_AT;

@@ -1,16 +1,16 @@
 -- A send, test by test, with names for what the code has read by then; and a send to an existing object.
-use Prim.Native.Nat.{ℕ, _+_, _-_, _*_, _%_, _≤_, _<_}
+use Prim.Native.Nat.{ℕ, _≤_, _<_}
 use native.Mathlib.Omega.{arith}
 use mathlib.Core.Path.{_≡_, refl, sym, ap, ap₂, subst, _∙_}
 use mathlib.Core.Bool.{Bool, true, false, cond}
 use mathlib.Core.List.{List}
 use lib.Dec.{leb, ltb}
 use borrow.Author.Tests.{leb-false, lt-leb, le-leb, lt-ltb, le-ltb}
-use Rattle.layout.specs.Layout.{namesAt, kindWords, methodNamesAt, objectClassAt}
+use Rattle.layout.specs.Layout.{objectClassAt}
 use Rattle.model.specs.Machine.{object, class, domain, to}
-use Rattle.catalog.specs.View.{classWord, objectWord, classCount, objectCount, memberCount}
-use Rattle.machine_words.specs.Request.{Wanted, lacking}
-use Rattle.machine_words.specs.Calls.{Lent, After, tablesOf, refused, wanted, granted, sentTo, sentBy}
+use Rattle.catalog.specs.View.{objectWord, classCount, objectCount, memberCount}
+use Rattle.machine_words.specs.Request.{Wanted, lacking, wanted}
+use Rattle.machine_words.specs.Calls.{Lent, After, tablesOf, refused, granted, sentTo, sentBy}
 use Rattle.machine_locks.specs.OneObject.{ObjectOf, ToObject}
 use Rattle.machine_conflicts.specs.Clashing.{lacking-other}
 
@@ -20,13 +20,6 @@ use Rattle.machine_conflicts.specs.Clashing.{lacking-other}
 unfoldable pub classSent : Lent → ℕ → ℕ → ℕ → ℕ → ℕ → After
 unfolding sentTo
 classSent x s kind c k a = cond (ltb c (classCount (tablesOf (x .words)))) (sentTo x s kind c c k a) (refused x 36)
-
--- The send with its method's name from the word of the class.
-pub wanted-by : (tables : List ℕ) (kind o c k a name : ℕ) → name ≡ classWord tables c (namesAt + (1 * kindWords + k))
-    → record { kind = kind; number = o; class = c; place = k; name = name % 1048576; argument = a } ≡ wanted tables kind o c k a
-wanted-by tables kind o c k a name e =
-    let at : namesAt + (1 * kindWords + k) ≡ methodNamesAt + k = omega arith in
-    ap (λ (n : ℕ). record { kind = kind; number = o; class = c; place = k; name = n % 1048576; argument = a }) (e ∙ ap (classWord tables c) at)
 
 -- 24 where there is no class c, 36 where it has no method at place k; else 0.
 unfoldable pub methodRefusal : List ℕ → ℕ → ℕ → ℕ

@@ -3,18 +3,21 @@ use Prim.Native.Nat.{ℕ, suc, _+_, _-_, _≤_, _<_}
 use native.Mathlib.Omega.{arith}
 use native.Mathlib.Numerals.{add-one}
 use mathlib.Core.Path.{_≡_, refl, sym, ap, ap₂, subst, _∙_}
-use mathlib.Core.Bool.{Bool, true, false, cond}
+use mathlib.Core.Bool.{Bool, true, false, cond, _&&_}
 use mathlib.Core.Option.{Option, none, some}
 use mathlib.Core.List.{List}
 use lib.ListN.{getD, take, drop, set}
 use lib.Seq.{set-getD}
-use lib.Dec.{eqb, ltb}
-use borrow.Author.Tests.{ltb-true, lt-ltb, le-ltb}
+use lib.Dec.{ltb}
+use borrow.Author.Tests.{ltb-true}
 use Rattle.layout.specs.Layout.{waitingAt, waitingWords, lineAt}
-use Rattle.laws.specs.Lists.{both-left}
-use Rattle.machine_words.specs.Request.{Wanted, First, on, past, nowhere, firstOf}
-use Rattle.machine_words.specs.Line.{tablesOf, rowStart, rowOf, phaseOf, waitingIn, wantedIn, countIn, slotAt, inTheWay, obstacle, Waking, keptAt, startedFrom, startedOrKept, wokenOr, isWaiting, wokenSlot, wokenFrom, woken}
+use Rattle.laws.specs.Lists.{both-right}
+use Rattle.catalog.specs.View.{classCount, memberCount}
+use Rattle.machine_words.specs.Turn.{targetThere}
+use Rattle.machine_words.specs.Request.{Wanted, isSendable, First, on, past, nowhere, firstOf}
+use Rattle.machine_words.specs.Line.{tablesOf, rowStart, wantedIn, waitingSend, countIn, slotAt, inTheWay, obstacle, Waking, keptAt, startedFrom, startedOrKept, wokenOr, isWaiting, wokenSlot, wokenFrom, woken}
 use Rattle.machine_conflicts.specs.Ahead.{waiting-send}
+use Rattle.machine_conflicts.specs.Clashing.{few-members}
 use Rattle.machine_conflicts.specs.Way.{gathered, least-none, least-some}
 
 -- The words, and how many still wait, are those of the definition.
@@ -52,32 +55,27 @@ module _ (text ws : List ℕ) (n t : ℕ) (q : Wanted) (mask : ℕ) (e : mask �
 -- ---- a slot of the line
 
 module _ (ws : List ℕ) (t : ℕ) where
-  pub no-slot : 8 ≤ t → false ≡ isWaiting ws t
-  unfolding isWaiting
-  no-slot h = rw (le-ltb t 8 h)
-
-  pub slot-waits : t < 8 → (f : ℕ) → f ≡ phaseOf (rowOf ws t) → eqb f 3 ≡ isWaiting ws t
-  unfolding isWaiting
-  slot-waits h f p = rw (lt-ltb t 8 h, ← p)
-
-  pub waiting-slot : (b : Bool) → b ≡ isWaiting ws t → b ≡ true → t < 8
-  unfolding isWaiting
-  waiting-slot b e z = ltb-true t 8 (both-left (ltb t 8) (eqb (phaseOf (rowOf ws t)) 3) (sym e ∙ z))
-
   module _ (text : List ℕ) (n : ℕ) (b : Bool) (e : b ≡ isWaiting ws t) where
     pub leaves-line : b ≡ false → record { waiting = n; words = ws } ≡ wokenSlot text ws n t
     unfolding wokenSlot
     leaves-line z = rw (← e, z)
 
-    pub wakes-slot : b ≡ true → (q : Wanted) → q ≡ wantedIn (take (rowStart t + waitingAt + waitingWords - (rowStart t + waitingAt)) (drop (rowStart t + waitingAt) ws))
+    pub wakes-slot : b ≡ true → (q : Wanted) → q ≡ wantedIn (tablesOf ws) (take (rowStart t + waitingAt + waitingWords - (rowStart t + waitingAt)) (drop (rowStart t + waitingAt) ws))
         → wokenOr text ws n t q (obstacle text ws n t q) ≡ wokenSlot text ws n t
     unfolding wokenSlot
     wakes-slot z q w = rw (← e, z) (ap (λ (x : Wanted). wokenOr text ws n t x (obstacle text ws n t x)) (waiting-send ws t q w))
 
--- The place of a waiting send is one of 32.
-pub few-places : (waiting : List ℕ) (q : Wanted) → q ≡ wantedIn waiting → q .place < 32
-unfolding wantedIn
-few-places waiting q e = omega (arith, ap (λ (x : Wanted). x .place) e)
+-- A send that starts has a place below 32.
+pub few-places : (text tables : List ℕ) (q : Wanted) (f : First) → f ≡ firstOf text tables q → (f ≡ nowhere → ⊥) → q .place < 32
+unfolding firstOf isSendable
+few-places text tables q f e z = go (isSendable tables q) refl
+  where
+    there : Bool
+    there = targetThere tables (q .kind) (q .number) && ltb (q .class) (classCount tables)
+
+    go : (b : Bool) → isSendable tables q ≡ b → q .place < 32
+    go true t = omega (arith, ltb-true (q .place) (memberCount tables (q .class) 1) (both-right there (ltb (q .place) (memberCount tables (q .class) 1)) t), few-members tables (q .class) 1)
+    go false t = absurd (z (e ∙ rw t))
 
 -- At most one more waits.
 slot-waiting : (text ws : List ℕ) (n t : ℕ) → wokenSlot text ws n t .waiting ≤ suc n
@@ -85,7 +83,7 @@ unfolding wokenSlot
 slot-waiting text ws n t = go (isWaiting ws t) (obstacle text ws n t q) (firstOf text (tablesOf ws) q)
   where
     q : Wanted
-    q = wantedIn (waitingIn (rowOf ws t))
+    q = waitingSend ws t
 
     started : (f : First) → startedOrKept text ws n t q f .waiting ≤ suc n
     started (on o first end) = omega arith

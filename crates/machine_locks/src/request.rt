@@ -2,14 +2,14 @@
 use super::grant::grant;
 use super::grant::grant_object;
 use machine_conflicts::clash::domain_lacks;
+use machine_conflicts::line::wanted_of;
 use machine_words::Target;
-use machine_words::Wanted;
 ghost use Prim.Native.Nat.{ℕ};
 ghost use mathlib.Core.Path.{_≡_};
 ghost use mathlib.Core.List.{List};
 ghost use Rattle.model.specs.Machine.{object, to};
-ghost use Rattle.machine_words.specs.Calls.{lending, tablesOf, wanted, sentTo, sentBy};
-ghost use Rattle.machine_words.specs.Said.{asked, aimed};
+ghost use Rattle.machine_words.specs.Calls.{lending, tablesOf, sentTo, sentBy};
+ghost use Rattle.machine_words.specs.Said.{aimed};
 ghost use Rattle.machine_checks.specs.Told.{Leaves};
 ghost use Rattle.machine_checks.specs.Lent.{Within};
 ghost use Rattle.machine_locks.specs.Outcomes.{outcomeOf};
@@ -30,28 +30,6 @@ fn method_refusal(tables: &[u32], class: u32, place: u32) -> u32
         return NO_METHOD;
     }
     0
-}
-
-// The send, with the word of its method's name.
-fn wanted_of(
-    tables: &[u32],
-    kind: u32,
-    number: u32,
-    class: u32,
-    place: u32,
-    argument: u32,
-) -> Wanted
-    ensures { λ r. ⌜ asked r ≡ wanted (now (tables .entry)) kind number class place argument ⌝ }
-{
-    let name = catalog::member_word(tables, class, layout::METHODS, place) % layout::ORIGIN_UNIT;
-    Wanted {
-        kind,
-        number,
-        class,
-        place,
-        name,
-        argument,
-    }
 }
 
 // Sends to a class's own objects (kind 1) or to a domain (kind 2), by the methods of a class; 24 where a class of the domain

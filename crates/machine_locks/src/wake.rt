@@ -1,5 +1,6 @@
 // Wakes those who wait, when a transaction has ended: from the front, each starts that no holder and no one still ahead is in the way of.
 use machine_conflicts::clash::clashing;
+use machine_conflicts::line::is_waiting;
 use machine_conflicts::line::slot_at;
 use machine_conflicts::line::waiting_count;
 use machine_conflicts::line::wanted_in;
@@ -14,7 +15,7 @@ ghost use mathlib.Core.Path.{_≡_};
 ghost use lib.ListN.{length};
 ghost use Rattle.layout.specs.Layout.{stateWords};
 ghost use Rattle.machine_words.specs.Request.{locked, entered};
-ghost use Rattle.machine_words.specs.Line.{tablesOf, rowOf, withRow, withdrawn, isWaiting, withPlace, wokenOr, obstacle, wokenSlot, woken};
+ghost use Rattle.machine_words.specs.Line.{tablesOf, rowOf, withRow, withdrawn, withPlace, wokenOr, obstacle, wokenSlot, woken};
 ghost use Rattle.machine_words.specs.Said.{asked, saidFirst};
 ghost use Rattle.machine_checks.specs.Lent.{Within};
 ghost use Rattle.machine_locks.specs.Woken.{Leaving};
@@ -43,7 +44,7 @@ fn keep_waiting(state: &mut [u32], ahead: u32, slot: u32) -> u32
 
 // Starts a slot's waiting send, or keeps it waiting. Answers how many are ahead of the next one.
 fn wake_waiting(text: &[u8], state: &mut [u32], ahead: u32, slot: u32, wanted: Wanted) -> u32
-    requires { ⌜ Within (now state) slot × (wanted .place < 32) × (ahead < 8) ⌝ }
+    requires { ⌜ Within (now state) slot × (ahead < 8) ⌝ }
     ensures { λ r. ⌜ Leaving (wokenOr (now (text .entry)) (now (state .entry)) ahead slot (asked wanted)
         (obstacle (now (text .entry)) (now (state .entry)) ahead slot (asked wanted))) r (now (state .exit)) ⌝ }
 {
@@ -58,16 +59,6 @@ fn wake_waiting(text: &[u8], state: &mut [u32], ahead: u32, slot: u32, wanted: W
     ahead
 }
 
-// Whether the slot exists and waits.
-fn is_waiting(state: &[u32], slot: u32) -> bool
-    ensures { λ r. ⌜ r ≡ isWaiting (now (state .entry)) slot ⌝ }
-{
-    if layout::SLOTS <= slot {
-        return false;
-    }
-    machine_checks::phase_of(state, slot) == layout::WAITING
-}
-
 // Wakes one slot of the line; one that does not wait leaves the line. Answers how many are ahead of the next one.
 fn wake_slot(text: &[u8], state: &mut [u32], ahead: u32, slot: u32) -> u32
     requires { ⌜ (stateWords ≤ length (now state)) × (ahead < 8) ⌝ }
@@ -78,7 +69,7 @@ fn wake_slot(text: &[u8], state: &mut [u32], ahead: u32, slot: u32) -> u32
     }
     let start = layout::TABLE_WORDS + slot as usize * layout::ROW_WORDS + layout::WAITING_AT;
     let end = start + layout::WAITING_WORDS;
-    let wanted = wanted_in(&state[start..end]);
+    let wanted = wanted_in(&state[0..layout::TABLE_WORDS], &state[start..end]);
     wake_waiting(text, state, ahead, slot, wanted)
 }
 

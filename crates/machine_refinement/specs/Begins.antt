@@ -11,8 +11,8 @@ use Rattle.model.specs.Lock.{Lock, locksFor}
 use Rattle.model.specs.Service.{Transaction, starting}
 use Rattle.model.specs.Machine.{service}
 use Rattle.catalog.specs.View.{classCount, memberCount}
-use Rattle.machine_words.specs.Request.{Wanted, locked, firstOf, entered}
-use Rattle.machine_words.specs.Calls.{phaseOf, wanted}
+use Rattle.machine_words.specs.Request.{Wanted, locked, firstOf, entered, wanted}
+use Rattle.machine_words.specs.Calls.{phaseOf}
 use Rattle.machine_refinement.specs.Rep.{Fits, OpenRep, methodOf, Aims, messageFor}
 use Rattle.machine_refinement.specs.Runs.{note-same}
 use Rattle.machine_refinement.specs.Locks.{holds-alike}

@@ -17,13 +17,14 @@ use Rattle.model.specs.Machine.{service}
 use Rattle.laws.specs.Basics.{at-or, put-same, put-other}
 use Rattle.laws.specs.Leads.{leads-same}
 use Rattle.catalog.specs.View.{classCount, memberCount}
-use Rattle.machine_words.specs.Request.{Wanted}
-use Rattle.machine_words.specs.Line.{waitingIn, wantedIn, countIn, slotAt, waitsFrom, closesCircle}
+use Rattle.machine_words.specs.Request.{Wanted, wanted}
+use Rattle.machine_words.specs.Line.{countIn, slotAt, waitsFrom, closesCircle, isWaiting, waitingSend}
 use Rattle.machine_words.specs.Line as Words
-use Rattle.machine_words.specs.Calls.{Lent, tablesOf, rowOf, wanted}
+use Rattle.machine_words.specs.Calls.{Lent, tablesOf, rowOf}
 use Rattle.machine_refinement.specs.Rep.{Aims, messageFor, Waits, RepAt, Rep}
 use Rattle.machine_refinement.specs.Obstacles.{way-is}
 use Rattle.machine_refinement.specs.Waking.{count-is}
+use Rattle.machine_refinement.specs.State.{waits-now}
 
 -- ---- the model's line with one more
 
@@ -99,7 +100,7 @@ module _ (lent : Lent) (p : Program) (w : World (service p)) (rep : Rep lent p w
 
   -- Who is in the way of the send there.
   way-there : (xs : Line p) (v : Waiter (service p)) (ys : Line p) → w .line ≡ xs ++ (v ∷ ys) → (u t : ℕ) → v .slot ≡ u → t < 8
-      → Words.inTheWay text ws (length xs) u (wantedIn (waitingIn (rowOf ws u))) t ≡ inTheWay (service p) (w .slots) xs u (v .message) t
+      → Words.inTheWay text ws (length xs) u (waitingSend ws u) t ≡ inTheWay (service p) (w .slots) xs u (v .message) t
   way-there xs v ys e u t same b =
       ap (λ (q : Wanted). Words.inTheWay text ws (length xs) u q t) (y .wants)
       ∙ way-is lent p (record { fields = w .fields; slots = w .slots; line = xs }) (front xs (v ∷ ys) e)
@@ -116,15 +117,20 @@ module _ (lent : Lent) (p : Program) (w : World (service p)) (rep : Rep lent p w
   waits-is xs [] e u t b = refl
   waits-is xs (v ∷ ys) e u t b =
       ap₂ _||_
-      (ap (λ (s : ℕ). eqb s u && Words.inTheWay text ws (length xs) u (wantedIn (waitingIn (rowOf ws u))) t) (slot-there xs v ys e) ∙ go (eqb (v .slot) u) refl)
+      (ap (λ (s : ℕ). eqb s u && (isWaiting ws u && Words.inTheWay text ws (length xs) u (waitingSend ws u) t)) (slot-there xs v ys e) ∙ go (eqb (v .slot) u) refl)
       (ap (λ (n : ℕ). waitsFrom text ws n (length ys) u t) more ∙ waits-is (xs ++ (v ∷ [])) ys (e ∙ sym (append-assoc xs (v ∷ []) ys)) u t b)
     where
       more : suc (length xs) ≡ length (xs ++ (v ∷ []))
       more = omega (arith, length-append xs (v ∷ []))
 
       go : (b : Bool) → eqb (v .slot) u ≡ b
-          → (b && Words.inTheWay text ws (length xs) u (wantedIn (waitingIn (rowOf ws u))) t) ≡ (b && inTheWay (service p) (w .slots) xs u (v .message) t)
-      go true f = way-there xs v ys e u t (eqb-true (v .slot) u f) b
+          → (b && (isWaiting ws u && Words.inTheWay text ws (length xs) u (waitingSend ws u) t)) ≡ (b && inTheWay (service p) (w .slots) xs u (v .message) t)
+      go true f =
+          let i = subst (List·Memᴰ v) (sym e) (Memᴰ·append-right xs (List·Memᴰ·head refl)) in
+          let same = eqb-true (v .slot) u f in
+          ap (λ (x : Bool). x && Words.inTheWay text ws (length xs) u (waitingSend ws u) t)
+          (ap (isWaiting ws) (sym same) ∙ waits-now lent p w rep v i)
+          ∙ way-there xs v ys e u t same b
       go false f = refl
 
   -- A send that would join closes a circle exactly if it does in the model.

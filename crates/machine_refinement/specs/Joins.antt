@@ -10,7 +10,7 @@ use lib.ListN.{length, getD, set, replicate, length-set, length-replicate, getD-
 use lib.Seq.{sets}
 use lib.Dec.{eqb}
 use borrow.Author.Tests.{eqb-true, eqb-false}
-use Rattle.layout.specs.Layout.{phaseAt, kindAt, numberAt, nameAt, argumentAt, classAt, placeAt, waitingAt, waitingWords, rowWords, lineAt}
+use Rattle.layout.specs.Layout.{phaseAt, kindAt, numberAt, nameAt, argumentAt, placeAt, waitingAt, waitingWords, rowWords, lineAt}
 use Rattle.model.specs.Base.{keep}
 use Rattle.model.specs.Vector.{Program}
 use Rattle.model.specs.Message.{Target, Message}
@@ -21,11 +21,11 @@ use Rattle.laws.specs.Lists.{in-keep, keep-length}
 use Rattle.twophase.specs.Order.{sub-keep}
 use Rattle.twophase.specs.Line.{Once, once-sub, once-add}
 use Rattle.catalog.specs.View.{classCount, memberCount}
-use Rattle.machine_words.specs.Request.{Wanted, namedRow, locked}
+use Rattle.machine_words.specs.Request.{Wanted, namedRow, locked, wanted, classFor}
 use Rattle.machine_words.specs.Row.{blank}
 use Rattle.machine_words.specs.Line.{wantedIn, requested, waitingRow, countIn, withPlace}
-use Rattle.machine_words.specs.Calls.{Lent, withWords, tablesOf, rowOf, phaseOf, withRow, wanted}
-use Rattle.machine_refinement.specs.Rep.{Holds, NowRep, OpenRep, SlotRep, methodOf, Aims, messageFor, Waits, settled, RepAt, Rep}
+use Rattle.machine_words.specs.Calls.{Lent, withWords, tablesOf, rowOf, phaseOf, withRow}
+use Rattle.machine_refinement.specs.Rep.{Holds, NowRep, OpenRep, SlotRep, methodOf, Aims, messageFor, Waits, settled, RepAt, Rep, one, each, whole}
 use Rattle.machine_refinement.specs.Runs.{note-same}
 use Rattle.machine_refinement.specs.Stores.{else-word, new-word}
 use Rattle.machine_refinement.specs.Locks.{blank-word, blank-holds, holds-alike, few-members}
@@ -94,11 +94,8 @@ module _ (q : Wanted) where
   abbrev z8 : List ℕ
   z8 = set z7 argumentAt (q .argument)
 
-  abbrev z13 : List ℕ
-  z13 = set z8 classAt (q .class)
-
   abbrev z14 : List ℕ
-  z14 = set z13 placeAt (q .place)
+  z14 = set z8 placeAt (q .place)
 
   long0 : length z0 ≡ waitingWords
   long0 = length-set {A = ℕ} (replicate waitingWords 0) phaseAt 2 ∙ length-replicate {A = ℕ} waitingWords 0
@@ -111,38 +108,46 @@ module _ (q : Wanted) where
 
   requested-long : length (requested q (replicate waitingWords 0)) ≡ waitingWords
   unfolding requested namedRow
-  requested-long = length-set z13 placeAt (q .place) ∙ length-set z8 classAt (q .class) ∙ long8
+  requested-long = length-set z8 placeAt (q .place) ∙ long8
 
   -- Words past the head are 0.
   requested-zero : (i : ℕ) → 15 ≤ i → i < waitingWords → getD (requested q (replicate waitingWords 0)) i 0 ≡ 0
   unfolding requested namedRow
   requested-zero i g h =
-      else-word z13 placeAt (q .place) i (omega arith) ∙ else-word z8 classAt (q .class) i (omega arith) ∙ else-word z7 argumentAt (q .argument) i (omega arith)
+      else-word z8 placeAt (q .place) i (omega arith) ∙ else-word z7 argumentAt (q .argument) i (omega arith)
       ∙ else-word z6 nameAt (q .name) i (omega arith) ∙ else-word z5 numberAt (q .number) i (omega arith) ∙ else-word z0 kindAt (q .kind) i (omega arith)
       ∙ else-word (replicate waitingWords 0) phaseAt 2 i (omega arith) ∙ getD-replicate waitingWords i 0 0 h
 
-  head-word : (i : ℕ) → i ≢ classAt → i ≢ placeAt → getD z14 i 0 ≡ getD z8 i 0
-  head-word i a b = else-word z13 placeAt (q .place) i b ∙ else-word z8 classAt (q .class) i a
-
-  -- Read back, they are the send.
-  requested-is : q .place < 32 → (row : List ℕ) → ((i : ℕ) → i < 15 → i ≢ 10 → getD row i 0 ≡ getD (requested q (replicate waitingWords 0)) i 0) → wantedIn row ≡ q
+  -- Read back, they are the send, its class and its name being those of the tables.
+  requested-is : (tables row : List ℕ) → ((i : ℕ) → i < 15 → i ≢ 10 → getD row i 0 ≡ getD (requested q (replicate waitingWords 0)) i 0)
+      → wantedIn tables row ≡ wanted tables (q .kind) (q .number) (classFor tables (q .kind) (q .number)) (q .place) (q .argument)
   unfolding wantedIn requested namedRow
-  requested-is few row same = λ j. record {
-    kind = (same kindAt (omega arith) (omega arith) ∙ head-word kindAt (omega arith) (omega arith) ∙ else-word z7 argumentAt (q .argument) kindAt (omega arith)
-        ∙ else-word z6 nameAt (q .name) kindAt (omega arith) ∙ else-word z5 numberAt (q .number) kindAt (omega arith) ∙ new-word z0 kindAt (q .kind) (omega (arith, long0))) j;
-    number = (same numberAt (omega arith) (omega arith) ∙ head-word numberAt (omega arith) (omega arith) ∙ else-word z7 argumentAt (q .argument) numberAt (omega arith)
-        ∙ else-word z6 nameAt (q .name) numberAt (omega arith) ∙ new-word z5 numberAt (q .number) (omega (arith, long0, length-set z0 kindAt (q .kind)))) j;
-    class = (same classAt (omega arith) (omega arith) ∙ else-word z13 placeAt (q .place) classAt (omega arith) ∙ new-word z8 classAt (q .class) (omega (arith, long8))) j;
-    place = (ap (λ (k : ℕ). k % 32) (same placeAt (omega arith) (omega arith) ∙ new-word z13 placeAt (q .place) (omega (arith, long8, length-set z8 classAt (q .class))))
-        ∙ small (q .place) few) j;
-    name = (same nameAt (omega arith) (omega arith) ∙ head-word nameAt (omega arith) (omega arith) ∙ else-word z7 argumentAt (q .argument) nameAt (omega arith)
-        ∙ new-word z6 nameAt (q .name) (omega (arith, long6))) j;
-    argument = (same argumentAt (omega arith) (omega arith) ∙ head-word argumentAt (omega arith) (omega arith)
-        ∙ new-word z7 argumentAt (q .argument) (omega (arith, long6, length-set z6 nameAt (q .name)))) j;
-  }
+  requested-is tables row same = λ j. wanted tables (kind j) (number j) (classFor tables (kind j) (number j)) (place j) (argument j)
     where
-      small : (k : ℕ) → k < 32 → k % 32 ≡ k
-      small k h = omega arith
+      kind : getD row kindAt 0 ≡ q .kind
+      kind =
+          same kindAt (omega arith) (omega arith) ∙ else-word z8 placeAt (q .place) kindAt (omega arith) ∙ else-word z7 argumentAt (q .argument) kindAt (omega arith)
+          ∙ else-word z6 nameAt (q .name) kindAt (omega arith) ∙ else-word z5 numberAt (q .number) kindAt (omega arith) ∙ new-word z0 kindAt (q .kind) (omega (arith, long0))
+
+      number : getD row numberAt 0 ≡ q .number
+      number =
+          same numberAt (omega arith) (omega arith) ∙ else-word z8 placeAt (q .place) numberAt (omega arith) ∙ else-word z7 argumentAt (q .argument) numberAt (omega arith)
+          ∙ else-word z6 nameAt (q .name) numberAt (omega arith) ∙ new-word z5 numberAt (q .number) (omega (arith, long0, length-set z0 kindAt (q .kind)))
+
+      place : getD row placeAt 0 ≡ q .place
+      place = same placeAt (omega arith) (omega arith) ∙ new-word z8 placeAt (q .place) (omega (arith, long8))
+
+      argument : getD row argumentAt 0 ≡ q .argument
+      argument =
+          same argumentAt (omega arith) (omega arith) ∙ else-word z8 placeAt (q .place) argumentAt (omega arith)
+          ∙ new-word z7 argumentAt (q .argument) (omega (arith, long6, length-set z6 nameAt (q .name)))
+
+-- The class of a target is the tables'.
+class-of : (tables : List ℕ) (c kind n : ℕ) (t : Target) → Aims tables c kind n t → classFor tables kind n ≡ c
+unfolding classFor
+class-of tables c _ _ _ (one o h e) = e
+class-of tables c _ _ _ each = refl
+class-of tables c _ _ _ whole = refl
 
 -- ---- the row and the line
 
@@ -210,8 +215,9 @@ module _ (lent : Lent) (p : Program) (w₀ : World (service p)) (rep : Rep lent 
         known = l;
         has = has;
         aims = aims;
-        wants = ap wantedIn (written-words row size words long 3)
-            ∙ requested-is q (omega (arith, few-members tables c 1)) words (λ i e ne. took .kept i ne (λ g f. omega arith));
+        wants = ap (wantedIn tables) (written-words row size words long 3)
+            ∙ requested-is q tables words (λ i e ne. took .kept i ne (λ g f. omega arith))
+            ∙ ap (λ (d : ℕ). wanted tables kind n d k a) (class-of tables c kind n x aims);
         sends = refl;
         locks = subst (λ (r : List ℕ). Holds p r (locksFor p x (methodOf p c k))) (sym (written-words row size words long 3))
             (subst (Holds p words) (append-nil (locksFor p x (methodOf p c k))) (took .holds));

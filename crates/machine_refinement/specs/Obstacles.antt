@@ -3,7 +3,7 @@
 use Prim.Native.Nat.{ℕ, zero, suc, _<_}
 use native.Mathlib.Omega.{arith}
 use mathlib.Core.Path.{_≡_, refl, sym, ap, ap₂, subst, _∙_}
-use mathlib.Core.Bool.{Bool, true, false, not, cond, _&&_, _||_}
+use mathlib.Core.Bool.{Bool, true, false, not, cond, _&&_, _||_, and-assoc}
 use mathlib.Core.Option.{Option, none, some, orElse}
 use mathlib.Core.List.{List, [], _∷_, map, List·Memᴰ, List·Memᴰ·head, List·Memᴰ·tail}
 use lib.Dec.{eqb}
@@ -17,14 +17,14 @@ use Rattle.model.specs.Service as Told
 use Rattle.model.specs.Machine.{service}
 use Rattle.laws.specs.Lists.{none-any}
 use Rattle.catalog.specs.View.{classCount, memberCount}
-use Rattle.machine_words.specs.Request.{Wanted, rowMeets}
-use Rattle.machine_words.specs.Line.{waitingIn, holderAt, waiterAt, inTheWay, obstacle}
-use Rattle.machine_words.specs.Calls.{Lent, tablesOf, rowOf, phaseOf, wanted}
+use Rattle.machine_words.specs.Request.{Wanted, rowMeets, wanted}
+use Rattle.machine_words.specs.Line.{waitingIn, holderAt, waiterAt, inTheWay, obstacle, isWaiting, waitsAhead, firstInLine}
+use Rattle.machine_words.specs.Calls.{Lent, tablesOf, rowOf, phaseOf}
 use Rattle.machine_refinement.specs.Rep.{SlotRep, methodOf, Aims, messageFor, settled, Waits, RepAt}
 use Rattle.machine_refinement.specs.Locks.{holds-alike}
 use Rattle.machine_refinement.specs.RowTest.{row-clash}
 use Rattle.machine_refinement.specs.WaitRows.{settled-locks}
-use Rattle.machine_refinement.specs.State.{row-size, phase-closed, closed-phase}
+use Rattle.machine_refinement.specs.State.{row-size, phase-closed, closed-phase, waits-now}
 
 -- The least number that passes is the same for tests that agree below a bound.
 least-same : (q r : ℕ → Bool) (n : ℕ) → ((k : ℕ) → k < n → q k ≡ r k) → least q n ≡ least r n
@@ -91,11 +91,13 @@ module _ (lent : Lent) (p : Program) (w : World (service p)) {n : ℕ} {all : Li
     -- Of those in line, only a slot's own send counts.
     waiter-is : (u : ℕ) → u < 8 → waiterAt ws n (rowMeets text tables q) u
         ≡ any (λ v. eqb (v .slot) u && locksClash p (locksFor p x (methodOf p c k)) (locksFor p (v .message .target) (v .message .method))) (w .line)
-    unfolding waiterAt any
-    waiter-is u b = ap (λ (slots : List ℕ). any (eqb u) slots && test) (rep .places) ∙ among (w .line) within
+    unfolding waiterAt waitsAhead any
+    waiter-is u b =
+        and-assoc (any (eqb u) (firstInLine ws n)) (isWaiting ws u) (rowMeets text tables q (waitingIn (rowOf ws u)))
+        ∙ ap (λ (slots : List ℕ). any (eqb u) slots && test) (rep .places) ∙ among (w .line) within
       where
         test : Bool
-        test = rowMeets text tables q (waitingIn (rowOf ws u))
+        test = isWaiting ws u && rowMeets text tables q (waitingIn (rowOf ws u))
 
         meets : Waiter (service p) → Bool
         meets v = locksClash p (locksFor p x (methodOf p c k)) (locksFor p (v .message .target) (v .message .method))
@@ -105,7 +107,8 @@ module _ (lent : Lent) (p : Program) (w : World (service p)) {n : ℕ} {all : Li
           where
             go : Waits text tables p (rowOf ws u) (v .message) → test ≡ meets v
             go y =
-                row-clash text tables p (rep .fits) c k a l has (waitingIn (rowOf ws u)) (locksFor p (y .target) (methodOf p (y .class) (y .place))) (y .locks)
+                ap (λ (t : Bool). t && rowMeets text tables q (waitingIn (rowOf ws u))) (ap (isWaiting ws) (sym e) ∙ waits-now lent p w rep v i)
+                ∙ row-clash text tables p (rep .fits) c k a l has (waitingIn (rowOf ws u)) (locksFor p (y .target) (methodOf p (y .class) (y .place))) (y .locks)
                 kind number x aims
                 ∙ ap (λ (z : Message). clash (locksFor p (z .target) (z .method))) (sym (y .sends))
 

@@ -21,8 +21,7 @@ use Rattle.laws.specs.Lists.{none-any}
 use Rattle.laws.specs.Lookup.{place-known, name-known}
 use Rattle.text_theory.specs.NamedRuns.{domain-methods}
 use Rattle.catalog.specs.View.{classCount, memberCount}
-use Rattle.machine_words.specs.Request.{Wanted, concerns, lacks, lacking, misses, ownsLocks}
-use Rattle.machine_words.specs.Calls.{wanted}
+use Rattle.machine_words.specs.Request.{Wanted, concerns, lacks, lacking, misses, ownsLocks, wanted}
 use Rattle.machine_refinement.specs.Rep.{Fits, lockWord, lockBit, Holdable, heldIn, Holds, methodOf, Aims, one, each, whole}
 use Rattle.machine_refinement.specs.Tables.{class-total, method-total, class-is}
 use Rattle.machine_refinement.specs.Clashes.{any-same, every-kept, below-count}

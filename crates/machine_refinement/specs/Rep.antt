@@ -29,7 +29,8 @@ use Rattle.laws.specs.Bits.{bit}
 use Rattle.machine_words.specs.Row.{act, noteAt, blank}
 use Rattle.machine_words.specs.Turn.{targetThere}
 use Rattle.machine_words.specs.Line.{waitingIn, wantedIn, withdrawn, countIn, firstInLine}
-use Rattle.machine_words.specs.Calls.{Lent, tablesOf, rowOf, phaseOf, misfitOf, wanted}
+use Rattle.machine_words.specs.Calls.{Lent, tablesOf, rowOf, phaseOf, misfitOf}
+use Rattle.machine_words.specs.Request.{wanted}
 
 -- ---- what a row represents
 
@@ -213,7 +214,7 @@ pub record Waits (text tables : List ℕ) (p : Program) (row : List ℕ) (m : Me
   pub known : class < classCount tables
   pub has : place < memberCount tables class 1
   pub aims : Aims tables class kind number target
-  pub wants : wantedIn (waitingIn row) ≡ wanted tables kind number class place argument
+  pub wants : wantedIn tables (waitingIn row) ≡ wanted tables kind number class place argument
   pub sends : m ≡ messageFor p target class place argument
   pub locks : Holds p (waitingIn row) (locksFor p target (methodOf p class place))
 

@@ -19,8 +19,7 @@ use Rattle.model.specs.Message as Model
 use Rattle.model.specs.Lock.{Lock, onObject, onClass, domainOf, locksFor, lockClash, locksClash, sameFlag}
 use Rattle.catalog.specs.View.{classWord, classCount, objectCount, memberCount}
 use Rattle.laws.specs.Lists.{none-any, both-true}
-use Rattle.machine_words.specs.Request.{Wanted, meets, placeIn, commutingIn, inDomain, concerns, classMeets, rowMeets}
-use Rattle.machine_words.specs.Calls.{wanted}
+use Rattle.machine_words.specs.Request.{Wanted, meets, placeIn, commutingIn, inDomain, concerns, classMeets, rowMeets, wanted}
 use Rattle.machine_refinement.specs.Rep.{Fits, onKnown, Holds, methodOf, Aims, one, each, whole}
 use Rattle.machine_words.specs.Meeting.{meets-or}
 use Rattle.machine_refinement.specs.Tables.{class-total, object-total, methods-are, method-total, method-name, class-is}

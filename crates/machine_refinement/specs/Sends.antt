@@ -18,9 +18,9 @@ use Rattle.model.specs.Lock.{locksFor, locksHeld}
 use Rattle.model.specs.Service.{done, opened, Transaction, World, withFields, standing, starting, started, obstacle, joined, inCircle, admitted, arrived, granted, sent}
 use Rattle.model.specs.Machine.{service, methodAt, Request, to, find}
 use Rattle.catalog.specs.View.{objectWord, classCount, objectCount, memberCount}
-use Rattle.machine_words.specs.Request.{Wanted, locked, First, on, past, nowhere, firstOf, entered}
+use Rattle.machine_words.specs.Request.{Wanted, locked, First, on, past, nowhere, firstOf, entered, wanted}
 use Rattle.machine_words.specs.Line.{countIn, closesCircle}
-use Rattle.machine_words.specs.Calls.{Lent, After, refused, tablesOf, rowOf, phaseOf, wanted, startedAt, startedOr, joinedAt, arrivedOr, grantedOr, sentTo, sentBy}
+use Rattle.machine_words.specs.Calls.{Lent, After, refused, tablesOf, rowOf, phaseOf, startedAt, startedOr, joinedAt, arrivedOr, grantedOr, sentTo, sentBy}
 use Rattle.machine_words.specs.Calls as Words
 use Rattle.machine_refinement.specs.Rep.{SlotRep, methodOf, Aims, one, each, whole, messageFor, Rep}
 use Rattle.machine_refinement.specs.Tables.{class-total, object-total, method-total, class-is}

@@ -20,8 +20,7 @@ use Rattle.text_theory.specs.NamedRuns.{classOn, NamedRun, begun-named}
 use Rattle.catalog.specs.View.{nameOf, objectWord, classCount, objectCount, memberCount}
 use Rattle.catalog.specs.Bodies.{bodyIn, bodyAt}
 use Rattle.machine_words.specs.Turn.{targetThere, objectFrom}
-use Rattle.machine_words.specs.Request.{Wanted, First, on, past, nowhere, firstOn, firstOf, namedRow, pastRow, entered}
-use Rattle.machine_words.specs.Calls.{wanted}
+use Rattle.machine_words.specs.Request.{Wanted, First, on, past, nowhere, firstOn, firstOf, namedRow, pastRow, entered, wanted, isSendable, firstFound}
 use Rattle.machine_refinement.specs.Rep.{Fits, Running, targetBy, messageOf, objectsFrom, runOf, Aims, one, each, whole, messageFor}
 use Rattle.machine_refinement.specs.Tables.{methodFor, class-total, object-total, method-total, method-name, class-is, resolving, body-at}
 use Rattle.machine_refinement.specs.Objects.{visited-is, next-within, next-some, next-none}
@@ -164,6 +163,10 @@ module _ (text tables : List ℕ) (p : Program) (fits : Fits text tables p) (c k
   abbrev Started : First → Type 0
   Started f = There f × Starts text tables p row (entered q f row) (Model.begun p message)
 
+  sendable : isSendable tables q ≡ true
+  unfolding isSendable
+  sendable = rw (target, lt-ltb c (classCount tables) h, lt-ltb k (memberCount tables c 1) has)
+
   starts-some : o < objectCount tables → Started (firstOf text tables q)
   unfolding firstOf entered namedRow
   starts-some l =
@@ -200,7 +203,8 @@ module _ (text tables : List ℕ) (p : Program) (fits : Fits text tables p) (c k
 
       is : firstOf text tables q ≡ on o (body .first) (body .first + body .count)
       is =
-          ap (λ (b : Bool). cond b (firstOn o (bodyAt text tables (objectWord tables o objectClassAt) k (q .name))) (past o)) (lt-ltb o (objectCount tables) l)
+          ap (λ (b : Bool). cond b (firstFound text tables q) nowhere) sendable
+          ∙ ap (λ (b : Bool). cond b (firstOn o (bodyAt text tables (objectWord tables o objectClassAt) k (q .name))) (past o)) (lt-ltb o (objectCount tables) l)
           ∙ ap (firstOn o) (body-at text tables p fits (objectWord tables o objectClassAt) (fits .known o l) k (q .name)
           ∙ ap (λ (w : ℕ). bodyIn text tables (objectWord tables o objectClassAt) (nameOf text w)) (sym word7)
           ∙ visit-body text tables p fits named named-length there o 0 l aimed known)
@@ -230,7 +234,9 @@ module _ (text tables : List ℕ) (p : Program) (fits : Fits text tables p) (c k
       )
     where
       is : firstOf text tables q ≡ past o
-      is = ap (λ (b : Bool). cond b (firstOn o (bodyAt text tables (objectWord tables o objectClassAt) k (q .name))) (past o)) (le-ltb o (objectCount tables) (omega arith))
+      is =
+          ap (λ (b : Bool). cond b (firstFound text tables q) nowhere) sendable
+          ∙ ap (λ (b : Bool). cond b (firstOn o (bodyAt text tables (objectWord tables o objectClassAt) k (q .name))) (past o)) (le-ltb o (objectCount tables) (omega arith))
 
       begun-is : Model.begun p message ≡ visit p (messageOf text named) [] 0
       begun-is =

@@ -5,14 +5,14 @@ use native.Mathlib.Omega.{arith}
 use native.Mathlib.Decide.{ℕ-discrete}
 use mathlib.Core.Path.{_≡_, refl, sym, ap, ap₂, subst, _∙_}
 use mathlib.Core.Logic.{_≢_, _⊎_, inr, ⊎-elim}
-use mathlib.Core.Bool.{Bool, true, false, cond}
+use mathlib.Core.Bool.{Bool, true, false, cond, _&&_}
 use mathlib.Core.Option.{Option, none, some}
 use mathlib.Core.List.{List, [], _∷_, _++_, map, map-append, List·Memᴰ}
 use lib.ListN.{length, getD, set, take, drop, length-drop}
 use lib.Seq.{getD-set-same, drop-set-lt, drop-set-add, take-suc-set}
 use lib.Dec.{eqb, ltb}
-use borrow.Author.Tests.{eqb-true, eqb-false, le-ltb}
-use Rattle.layout.specs.Layout.{valuesMost, setMarksAt, notesAt, rowWords, lineAt, firstInLineAt, stateWords}
+use borrow.Author.Tests.{eqb-true, eqb-false, le-ltb, eq-eqb, lt-ltb}
+use Rattle.layout.specs.Layout.{valuesMost, setMarksAt, notesAt, rowWords, lineAt, firstInLineAt, stateWords, slotsMost}
 use Rattle.model.specs.Base.{put}
 use Rattle.model.specs.Vector.{Program}
 use Rattle.model.specs.Message.{Message, Run}
@@ -22,7 +22,7 @@ use Rattle.model.specs.Machine.{service}
 use Rattle.laws.specs.Basics.{at-or, put-same, put-other}
 use Rattle.laws.specs.Bits.{bit, bit-zero}
 use Rattle.machine_words.specs.Row.{noteBy, noteAt, blank}
-use Rattle.machine_words.specs.Line.{countIn, firstInLine, withPlace}
+use Rattle.machine_words.specs.Line.{countIn, firstInLine, withPlace, isWaiting}
 use Rattle.machine_words.specs.Calls.{Lent, lending, withWords, tablesOf, rowOf, phaseOf, withRow}
 use Rattle.machine_words.specs.Rows.{row-length, with-same, with-other, with-tables, with-count, with-line, with-fit, place-row, place-tables, place-fit, fit-is}
 use Rattle.machine_refinement.specs.Rep.{Fits, NowRep, Clean, Holds, OpenRep, SlotRep, Waits, settled, RepAt, Rep}
@@ -119,6 +119,13 @@ pub slot-stands : (text tables : List ℕ) (p : Program) (row : List ℕ) (z : S
 slot-stands text tables p row closed e = subst (λ (r : List ℕ). StandingRep p r (newTransaction (service p))) (sym e) (blank-stands p)
 slot-stands text tables p row (opened t) o = record { undo = o .undo; clean = o .clean; locks = o .locks }
 
+-- A slot in line waits.
+pub waits-now : (lent : Lent) (p : Program) (w : World (service p)) {n : ℕ} {all : List (Waiter (service p))} → RepAt lent p w n all
+    → (v : Waiter (service p)) → List·Memᴰ v all → isWaiting (lent .words) (v .slot) ≡ true
+unfolding isWaiting
+waits-now lent p w rep v i =
+    ap₂ _&&_ (lt-ltb (v .slot) 8 (rep .below v i)) (eq-eqb (phaseOf (rowOf (lent .words) (v .slot))) 3 (rep .waits v i .phase))
+
 -- ---- a slot altered
 
 -- A call that writes one slot's row and keeps the number of values: the words represent the world with that slot altered. Those who
@@ -206,7 +213,7 @@ moved-rep lent p w rep s h row values′ size count z was is slot =
 
 -- A word of the line is written, and the world has another line.
 module _ (lent : Lent) (p : Program) (w : World (service p)) {n : ℕ} {all : List (Waiter (service p))} (rep : RepAt lent p w n all)
-    (i v : ℕ) (h : lineAt ≤ i) where
+    (i v : ℕ) (h : lineAt ≤ i) (few : i ≡ lineAt → v ≤ slotsMost) where
   tables′ : tablesOf (set (lent .words) i v) ≡ tablesOf (lent .words)
   tables′ = place-tables (lent .words) i v h
 
@@ -214,7 +221,7 @@ module _ (lent : Lent) (p : Program) (w : World (service p)) {n : ℕ} {all : Li
       → RepAt (withWords lent (set (lent .words) i v)) p (record { fields = w .fields; slots = w .slots; line = line }) k all
   rewritten line k places =
       record {
-        fit = place-fit (lent .words) i v h (lent .text) (lent .values) ∙ rep .fit;
+        fit = place-fit (lent .words) i v h (lent .text) (lent .values) few (rep .fit);
         fits = subst (λ (t : List ℕ). Fits (lent .text) t p) (sym tables′) (rep .fits);
         fields = rep .fields;
         slots = λ t l.
@@ -233,7 +240,7 @@ module _ (lent : Lent) (p : Program) (w : World (service p)) {n : ℕ} {all : Li
 pub placed : (lent : Lent) (p : Program) (w : World (service p)) {n : ℕ} {all : List (Waiter (service p))} → RepAt lent p w n all
     → n < 8 → (v : Waiter (service p)) → RepAt (withWords lent (withPlace (lent .words) n (v .slot))) p (queued (service p) w v) (suc n) all
 placed lent p w {n} rep few v =
-    rewritten lent p w rep (firstInLineAt + n) (v .slot) (omega arith) (w .line ++ (v ∷ [])) (suc n)
+    rewritten lent p w rep (firstInLineAt + n) (v .slot) (omega arith) (λ e. omega arith) (w .line ++ (v ∷ [])) (suc n)
     (ap (take (suc n)) (drop-set-add firstInLineAt (lent .words) n (v .slot))
     ∙ take-suc-set (drop firstInLineAt (lent .words)) n (v .slot) (omega (arith, length-drop firstInLineAt (lent .words), fit-is lent (rep .fit) .long))
     ∙ ap (λ (l : List ℕ). l ++ (v .slot ∷ [])) (rep .places) ∙ sym (map-append (λ x. x .slot) (w .line) (v ∷ [])))
@@ -246,5 +253,5 @@ counted lent p w {n} {all} rep few =
     let e : getD (set (lent .words) lineAt n) lineAt 0 ≡ n = getD-set-same (lent .words) lineAt n 0 (omega (arith, fit-is lent (rep .fit) .long)) in
     let is : cond (ltb 8 (getD (set (lent .words) lineAt n) lineAt 0)) 8 (getD (set (lent .words) lineAt n) lineAt 0) ≡ n = rw (e, le-ltb 8 n few) in
     subst (λ (k : ℕ). RepAt (withWords lent (set (lent .words) lineAt n)) p w k all) (sym is)
-    (rewritten lent p w rep lineAt n (omega arith) (w .line) n
+    (rewritten lent p w rep lineAt n (omega arith) (λ e. few) (w .line) n
     (ap (take n) (drop-set-lt firstInLineAt (lent .words) lineAt n (omega arith)) ∙ rep .places))

@@ -21,8 +21,7 @@ use Rattle.text_theory.specs.Accepted.{or-false}
 use Rattle.catalog.specs.View.{classCount, objectCount, memberCount}
 use Rattle.laws.specs.Bits.{bit, bit-or, bit-one}
 use Rattle.machine_words.specs.Row.{lockMarked, withBits}
-use Rattle.machine_words.specs.Request.{Wanted, placeIn, inDomain, concerns, withLock, domainLock, locked}
-use Rattle.machine_words.specs.Calls.{wanted}
+use Rattle.machine_words.specs.Request.{Wanted, placeIn, inDomain, concerns, withLock, domainLock, locked, wanted}
 use Rattle.machine_refinement.specs.Rep.{Fits, lockWord, lockBit, Holdable, Holds, Clean, methodOf, Aims, one, each, whole}
 use Rattle.machine_refinement.specs.Tables.{class-total, method-total, class-is}
 use Rattle.machine_refinement.specs.Stores.{else-word, new-word}

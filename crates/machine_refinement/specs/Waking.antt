@@ -18,18 +18,18 @@ use Rattle.model.specs.Machine.{service}
 use Rattle.laws.specs.Lists.{in-keep, keep-in}
 use Rattle.twophase.specs.Order.{sub-drop, sub-keep}
 use Rattle.twophase.specs.Line.{once-sub, once-drop}
-use Rattle.machine_words.specs.Request.{Wanted, First, on, past, nowhere, firstOf, locked, entered}
+use Rattle.machine_words.specs.Request.{Wanted, First, on, past, nowhere, firstOf, locked, entered, wanted}
 use Rattle.machine_words.specs.Row.{blank}
-use Rattle.machine_words.specs.Line.{waitingIn, wantedIn, withdrawn, slotAt, withPlace, Waking, keptAt, startedFrom, startedOrKept, isWaiting, wokenSlot, wokenFrom, countIn, firstInLine, woken}
+use Rattle.machine_words.specs.Line.{waitingSend, withdrawn, slotAt, withPlace, Waking, keptAt, startedFrom, startedOrKept, isWaiting, wokenSlot, wokenFrom, countIn, firstInLine, woken}
 use Rattle.machine_words.specs.Line as Words
-use Rattle.machine_words.specs.Calls.{Lent, lending, withWords, tablesOf, rowOf, phaseOf, withRow, wanted}
+use Rattle.machine_words.specs.Calls.{Lent, lending, withWords, tablesOf, rowOf, phaseOf, withRow}
 use Rattle.machine_words.specs.Spans.{drop-sets}
 use Rattle.machine_words.specs.Rows.{with-same, with-other, with-count, with-line, place-row, fit-is}
 use Rattle.machine_refinement.specs.Rep.{SlotRep, Waits, messageFor, RepAt, Rep}
 use Rattle.machine_refinement.specs.Locks.{blank-word}
 use Rattle.machine_refinement.specs.WaitRows.{withdrawn-long, settled-waits, settled-ready}
 use Rattle.machine_refinement.specs.Starts.{There}
-use Rattle.machine_refinement.specs.State.{row-size, slot-stands, altered, placed, counted}
+use Rattle.machine_refinement.specs.State.{row-size, slot-stands, altered, placed, counted, waits-now}
 use Rattle.machine_refinement.specs.Obstacles.{obstacle-is}
 use Rattle.machine_refinement.specs.Begins.{Begun, begins}
 
@@ -69,14 +69,13 @@ module _ (lent : Lent) (p : Program) where
     waits = rep .waits v here
 
     abbrev q : Wanted
-    q = wantedIn (waitingIn (rowOf ws s))
+    q = waitingSend ws s
 
     q-is : q ≡ wanted tables (waits .kind) (waits .number) (waits .class) (waits .place) (waits .argument)
     q-is = waits .wants
 
     is-waiting : isWaiting ws s ≡ true
-    unfolding isWaiting
-    is-waiting = ap₂ _&&_ (lt-ltb s 8 h) (eq-eqb (phaseOf (rowOf ws s)) 3 (waits .phase))
+    is-waiting = waits-now (withWords lent ws) p w rep v here
 
     way-is : Words.obstacle text ws n s q ≡ obstacle (service p) w s (v .message)
     way-is =

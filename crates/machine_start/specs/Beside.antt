@@ -1,27 +1,33 @@
 -- Tables that differ only in what a start works out besides the masks: they represent the same library, and count the same values.
-use Prim.Native.Nat.{ℕ, zero, suc, _+_, _*_, _≤_, _<_}
+use Prim.Native.Nat.{ℕ, zero, suc, _+_, _*_, _≤_, _<_, _/_, _%_}
 use mathlib.Core.Path.{_≡_, refl, ap, ap₂, _∙_}
 use mathlib.Core.Bool.{Bool, true, false, cond, _||_}
 use mathlib.Core.List.{List}
 use native.Mathlib.Omega.{arith}
-use lib.ListN.{length, set, length-set}
+use lib.ListN.{length, set, length-set, getD}
 use lib.Dec.{eqb, ltb}
 use borrow.Author.Tests.{ltb-true}
-use Rattle.layout.specs.Layout.{domainAt, classWords, objectClassAt, objectValuesAt, objectLineAt, objectWords, classesAt, objectsAt, statementsAt, tableWords}
+use Rattle.layout.specs.Layout.{domainAt, classWords, objectClassAt, objectValuesAt, objectLineAt, objectWords, classesAt, objectsAt, statementsAt, tableWords, classCountAt, statementCountAt, objectCountAt}
 use Rattle.model.specs.Base.{upto}
 use Rattle.model.specs.Image.{mask}
-use Rattle.catalog.specs.View.{nameOf, partOf, classWord, objectWord, classCount, objectCount, memberCount, numbersIn, classOf, objectOf, libraryOf}
+use Rattle.catalog.specs.View.{nameOf, partOf, classWord, objectWord, classCount, objectCount, memberCount, numbersIn, classOf, objectOf, libraryOf, statementWord, statementCount, statementIn, placedOf}
 use Rattle.laws.specs.Bits.{bit}
 use Rattle.laws.specs.Upto.{upto-same}
-use Rattle.catalog.specs.Store.{Unaltered, unaltered-set, members-same, statements-same}
+use Rattle.catalog.specs.Store.{Unaltered, unaltered-set, members-same}
 use Rattle.catalog.specs.Look.{shownCount}
 use Rattle.output.specs.Each.{total}
 use Rattle.machine_start.specs.Worked.{belongs, domainMask, valuesOf, firstValue}
+use lib.Seq.{getD-set-same, getD-set-other}
+use Rattle.model.specs.Text.{words}
+use Rattle.model.specs.Form.{formOf}
 
--- Only the head's number of values, text length and mark, each class's domain and each object's first value are altered.
+-- Only the head's number of values, text length and mark, each class's domain and each object's first value are altered; the counts of
+-- classes, statements and objects are the same, as far as there is room.
 pub record Beside (ws ws′ : List ℕ) : Type 0 where
   pub size : length ws′ ≡ length ws
-  pub counts : Unaltered 0 3 ws ws′
+  pub classes : classCount ws′ ≡ classCount ws
+  pub statement-count : statementCount ws′ ≡ statementCount ws
+  pub objects : objectCount ws′ ≡ objectCount ws
   pub low : (k : ℕ) → k < 16 → Unaltered (classesAt + k * classWords) (classesAt + domainAt + k * classWords) ws ws′
   pub high : (k : ℕ) → k < 16 → Unaltered (classesAt + domainAt + 1 + k * classWords) (classesAt + classWords + k * classWords) ws ws′
   pub object : (o : ℕ) → o < 64 → Unaltered (objectsAt + o * objectWords) (objectsAt + objectValuesAt + o * objectWords) ws ws′
@@ -31,7 +37,9 @@ pub record Beside (ws ws′ : List ℕ) : Type 0 where
 pub beside-none : (ws : List ℕ) → Beside ws ws
 beside-none ws = record {
   size = refl;
-  counts = λ i p q. refl;
+  classes = refl;
+  statement-count = refl;
+  objects = refl;
   low = λ k l i p q. refl;
   high = λ k l i p q. refl;
   object = λ o l i p q. refl;
@@ -42,7 +50,9 @@ beside-none ws = record {
 pub beside-then : {ws ws₁ ws₂ : List ℕ} → Beside ws ws₁ → Beside ws₁ ws₂ → Beside ws ws₂
 beside-then h k = record {
   size = k .size ∙ h .size;
-  counts = λ i p q. k .counts i p q ∙ h .counts i p q;
+  classes = k .classes ∙ h .classes;
+  statement-count = k .statement-count ∙ h .statement-count;
+  objects = k .objects ∙ h .objects;
   low = λ c l i p q. k .low c l i p q ∙ h .low c l i p q;
   high = λ c l i p q. k .high c l i p q ∙ h .high c l i p q;
   object = λ o l i p q. k .object o l i p q ∙ h .object o l i p q;
@@ -53,11 +63,24 @@ beside-then h k = record {
 -- ---- a store at each of these words
 
 module _ (ws : List ℕ) where
-  beside-set : (j v : ℕ) → 3 ≤ j → j < statementsAt → ((k : ℕ) → k < 16 → classesAt + k * classWords ≤ j → j < classesAt + classWords + k * classWords → j ≡ classesAt + domainAt + k * classWords)
+  -- The counts, by their words.
+  abbrev Counts : List ℕ → Type 0
+  Counts ws′ = (classCount ws′ ≡ classCount ws) × (statementCount ws′ ≡ statementCount ws) × (objectCount ws′ ≡ objectCount ws)
+
+  same-counts : (j v : ℕ) → 3 ≤ j → Counts (set ws j v)
+  same-counts j v m =
+      let a = getD-set-other ws j classCountAt v 0 (λ e. omega arith) in
+      let b = getD-set-other ws j statementCountAt v 0 (λ e. omega arith) in
+      let c = getD-set-other ws j objectCountAt v 0 (λ e. omega arith) in
+      (omega arith, omega arith, omega arith)
+
+  beside-set : (j v : ℕ) → Counts (set ws j v) → j < statementsAt → ((k : ℕ) → k < 16 → classesAt + k * classWords ≤ j → j < classesAt + classWords + k * classWords → j ≡ classesAt + domainAt + k * classWords)
       → ((o : ℕ) → o < 64 → objectsAt + o * objectWords ≤ j → j < objectsAt + objectWords + o * objectWords → j ≡ objectsAt + objectValuesAt + o * objectWords) → Beside ws (set ws j v)
-  beside-set j v m n class object = record {
+  beside-set j v counts n class object = record {
     size = length-set ws j v;
-    counts = unaltered-set 0 3 ws j v (λ p q. omega arith);
+    classes = counts .0;
+    statement-count = counts .1;
+    objects = counts .2;
     low = λ k l. unaltered-set (classesAt + k * classWords) (classesAt + domainAt + k * classWords) ws j v (λ p q. omega (arith, class k l (omega arith) (omega arith)));
     high = λ k l. unaltered-set (classesAt + domainAt + 1 + k * classWords) (classesAt + classWords + k * classWords) ws j v (λ p q. omega (arith, class k l (omega arith) (omega arith)));
     object = λ o l. unaltered-set (objectsAt + o * objectWords) (objectsAt + objectValuesAt + o * objectWords) ws j v (λ p q. omega (arith, object o l (omega arith) (omega arith)));
@@ -66,13 +89,39 @@ module _ (ws : List ℕ) where
   }
 
   pub beside-header : (j v : ℕ) → 3 ≤ j → j < 8 → Beside ws (set ws j v)
-  beside-header j v m n = beside-set j v m (omega arith) (λ k l p q. omega arith) (λ o l p q. omega arith)
+  beside-header j v m n = beside-set j v (same-counts j v m) (omega arith) (λ k l p q. omega arith) (λ o l p q. omega arith)
 
   pub beside-domain : (c v : ℕ) → c < 16 → Beside ws (set ws (classesAt + (c * classWords + 5)) v)
-  beside-domain c v m = beside-set (classesAt + (c * classWords + 5)) v (omega arith) (omega arith) (λ k l p q. omega arith) (λ o l p q. omega arith)
+  beside-domain c v m = beside-set (classesAt + (c * classWords + 5)) v (same-counts (classesAt + (c * classWords + 5)) v (omega arith)) (omega arith) (λ k l p q. omega arith) (λ o l p q. omega arith)
 
   pub beside-place : (x v : ℕ) → x < 64 → Beside ws (set ws (objectsAt + (x * objectWords + 2)) v)
-  beside-place x v m = beside-set (objectsAt + (x * objectWords + 2)) v (omega arith) (omega arith) (λ k l p q. omega arith) (λ o l p q. omega arith)
+  beside-place x v m = beside-set (objectsAt + (x * objectWords + 2)) v (same-counts (objectsAt + (x * objectWords + 2)) v (omega arith)) (omega arith) (λ k l p q. omega arith) (λ o l p q. omega arith)
+
+  -- A count written again, as far as there is room.
+  module _ (long : tableWords ≤ length ws) where
+    beside-count : (j v : ℕ) → j < 3 → Counts (set ws j v) → Beside ws (set ws j v)
+    beside-count j v m counts = beside-set j v counts (omega arith) (λ k l p q. omega arith) (λ o l p q. omega arith)
+
+    pub beside-class-count : Beside ws (set ws classCountAt (classCount ws))
+    beside-class-count =
+        let a = getD-set-same ws classCountAt (classCount ws) 0 (omega arith) in
+        let b = getD-set-other ws classCountAt statementCountAt (classCount ws) 0 (λ e. omega arith) in
+        let c = getD-set-other ws classCountAt objectCountAt (classCount ws) 0 (λ e. omega arith) in
+        beside-count classCountAt (classCount ws) (omega arith) (omega arith, omega arith, omega arith)
+
+    pub beside-statement-count : Beside ws (set ws statementCountAt (statementCount ws))
+    beside-statement-count =
+        let a = getD-set-other ws statementCountAt classCountAt (statementCount ws) 0 (λ e. omega arith) in
+        let b = getD-set-same ws statementCountAt (statementCount ws) 0 (omega arith) in
+        let c = getD-set-other ws statementCountAt objectCountAt (statementCount ws) 0 (λ e. omega arith) in
+        beside-count statementCountAt (statementCount ws) (omega arith) (omega arith, omega arith, omega arith)
+
+    pub beside-object-count : Beside ws (set ws objectCountAt (objectCount ws))
+    beside-object-count =
+        let a = getD-set-other ws objectCountAt classCountAt (objectCount ws) 0 (λ e. omega arith) in
+        let b = getD-set-other ws objectCountAt statementCountAt (objectCount ws) 0 (λ e. omega arith) in
+        let c = getD-set-same ws objectCountAt (objectCount ws) 0 (omega arith) in
+        beside-count objectCountAt (objectCount ws) (omega arith) (omega arith, omega arith, omega arith)
 
 -- ---- what is the same
 
@@ -84,10 +133,10 @@ total-below f g (suc n) h = ap₂ _+_ (total-below f g n (λ k l. h k (omega ari
 
 module _ {ws ws′ : List ℕ} (h : Beside ws ws′) where
   pub beside-classes : classCount ws′ ≡ classCount ws
-  beside-classes = omega (arith, h .counts 0 (omega arith) (omega arith))
+  beside-classes = h .classes
 
   pub beside-objects : objectCount ws′ ≡ objectCount ws
-  beside-objects = omega (arith, h .counts 2 (omega arith) (omega arith))
+  beside-objects = h .objects
 
   -- A class's words before its domain are the same.
   pub beside-low : (k i : ℕ) → k < 16 → i < 5 → classWord ws′ k i ≡ classWord ws k i
@@ -127,10 +176,10 @@ module _ {ws ws′ : List ℕ} (h : Beside ws ws′) where
   }
 
   pub beside-library : (text : List ℕ) → libraryOf text ws′ ≡ libraryOf text ws
-  unfolding libraryOf
+  unfolding libraryOf placedOf statementWord
   beside-library text = λ i. record {
     classes = classes i;
-    statements = statements-same text ws ws′ (h .counts 1 (omega arith) (omega arith)) (h .statements) i;
+    statements = statements i;
     objects = objects i;
   }
     where
@@ -138,6 +187,14 @@ module _ {ws ws′ : List ℕ} (h : Beside ws ws′) where
       classes =
           ap (upto (classOf text ws′)) beside-classes
           ∙ upto-same (classOf text ws) (classOf text ws′) (classCount ws) (λ k l. class-beside text k (omega arith))
+
+      placed : (s : ℕ) → s < statementCount ws → placedOf text ws′ s ≡ placedOf text ws s
+      placed s l =
+          ap (λ (w : ℕ). record { statement = statementIn (formOf (words (partOf text w))); at = w / 65536; size = w % 65536 })
+          (h .statements (statementsAt + s) (omega arith) (omega arith))
+
+      statements : upto (placedOf text ws′) (statementCount ws′) ≡ upto (placedOf text ws) (statementCount ws)
+      statements = ap (upto (placedOf text ws′)) (h .statement-count) ∙ upto-same (placedOf text ws) (placedOf text ws′) (statementCount ws) placed
 
       objects : upto (objectOf text ws′) (objectCount ws′) ≡ upto (objectOf text ws) (objectCount ws)
       objects =

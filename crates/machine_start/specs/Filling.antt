@@ -52,6 +52,7 @@ module _ (text ws ws₁ ws′ : List ℕ) (size : length ws ≡ tableWords) (f :
     started = record {
       size = s .beside .size ∙ f .only .size ∙ size;
       fits = fits;
+      few = s .few;
       values = value-count;
       text-length = omega (arith, s .text-length, accepted-size text (libraryOf text ws) e);
       marked = s .marked;

@@ -7,13 +7,13 @@ use native.Mathlib.Omega.{arith}
 use lib.ListN.{length, getD, take, drop, set, replicate, length-append, length-replicate, getD-replicate, List·getD-append}
 use lib.Seq.{getD-append-add, take-all, take-at, drop-at, drop-drop, drop-append-add, paste, paste-suc}
 use borrow.Author.Tests.{le-ltb, le-leb, eq-eqb}
-use Rattle.layout.specs.Layout.{valuesMost, slotsMost, valueCountAt, textLengthAt, startMarkAt, tableWords, rowWords, lineAt, slotsWords, stateWords}
+use Rattle.layout.specs.Layout.{valuesMost, slotsMost, valueCountAt, textLengthAt, startMarkAt, tableWords, rowWords, lineAt, slotsWords, stateWords, classesMost, statementsMost, objectsMost, classCountAt, statementCountAt, objectCountAt}
 use Rattle.model.specs.Vector.{program}
 use Rattle.catalog.specs.View.{objectCount, libraryOf}
 use Rattle.image.specs.Sizes.{valueCount, values-le}
 use Rattle.machine_words.specs.Row.{blank}
 use Rattle.machine_words.specs.Line.{countIn}
-use Rattle.machine_words.specs.Calls.{lending, mark, tablesOf, rowOf, misfitOf}
+use Rattle.machine_words.specs.Calls.{lending, mark, tablesOf, rowOf, misfitOf, isCounted}
 use Rattle.machine_refinement.specs.Rep.{Fits, Fresh}
 use Rattle.machine_start.specs.Started.{Started}
 
@@ -73,15 +73,16 @@ module _ (tables rest : List ℕ) (size : length tables ≡ tableWords) where
       ap (take rowWords) (past-tables tables (replicate slotsWords 0 ++ rest) (t * rowWords) size)
       ∙ zeros-part slotsWords (t * rowWords) rowWords rest (omega arith)
 
-  line-there : countIn (installed tables rest) ≡ 0
-  unfolding countIn
-  line-there =
-      let none : getD (installed tables rest) lineAt 0 ≡ 0 =
+  line-word : getD (installed tables rest) lineAt 0 ≡ 0
+  line-word =
       ap (λ (n : ℕ). getD (installed tables rest) (n + (slotsMost * rowWords)) 0) (sym size)
       ∙ getD-append-add tables (replicate slotsWords 0 ++ rest) (slotsMost * rowWords) 0
       ∙ List·getD-append (replicate slotsWords 0) rest 0 (slotsMost * rowWords) (omega (arith, length-replicate {A = ℕ} slotsWords 0))
-      ∙ getD-replicate slotsWords (slotsMost * rowWords) 0 0 (omega arith) in
-      rw none refl
+      ∙ getD-replicate slotsWords (slotsMost * rowWords) 0 0 (omega arith)
+
+  line-there : countIn (installed tables rest) ≡ 0
+  unfolding countIn
+  line-there = rw line-word refl
 
   length-there : stateWords ≤ length (installed tables rest)
   length-there =
@@ -97,7 +98,7 @@ module _ (tables rest : List ℕ) (size : length tables ≡ tableWords) where
 
 module _ (text ws tables values rest : List ℕ) (s : Started text ws tables) (e : length values ≡ valueCount ws) where
   lent-fits : misfitOf (lending text (installed tables rest) values) ≡ 0
-  unfolding misfitOf
+  unfolding misfitOf isCounted
   lent-fits =
       let few : length values ≤ valuesMost = omega (arith, values-le ws (objectCount ws)) in
       let now = installed tables rest in
@@ -107,6 +108,10 @@ module _ (text ws tables values rest : List ℕ) (s : Started text ws tables) (e
         eq-eqb (getD now textLengthAt 0) (length text) (word-there tables rest (s .size) textLengthAt (omega arith) ∙ s .text-length),
         eq-eqb (getD now valueCountAt 0) (length values) (word-there tables rest (s .size) valueCountAt (omega arith) ∙ s .values ∙ sym e),
         le-leb (length values) valuesMost few,
+        le-leb (getD now classCountAt 0) classesMost (omega (arith, s .few .classes, word-there tables rest (s .size) classCountAt (omega arith))),
+        le-leb (getD now statementCountAt 0) statementsMost (omega (arith, s .few .statements, word-there tables rest (s .size) statementCountAt (omega arith))),
+        le-leb (getD now objectCountAt 0) objectsMost (omega (arith, s .few .objects, word-there tables rest (s .size) objectCountAt (omega arith))),
+        le-leb (getD now lineAt 0) slotsMost (omega (arith, line-word tables rest (s .size))),
       )
 
   pub fresh-start : Fresh (lending text (installed tables rest) values) (program (libraryOf text ws))

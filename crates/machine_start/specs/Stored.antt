@@ -10,13 +10,13 @@ use lib.ListN.{length, getD, set, length-set}
 use lib.Seq.{getD-set-same, getD-set-other}
 use lib.Dec.{eqb}
 use borrow.Author.Tests.{eqb-true, eqb-false}
-use Rattle.layout.specs.Layout.{valueCountAt, textLengthAt, startMarkAt, domainAt, classWords, objectValuesAt, objectWords, classesAt, objectsAt, tableWords}
-use Rattle.catalog.specs.View.{classWord, objectWord, classCount, objectCount}
+use Rattle.layout.specs.Layout.{valueCountAt, textLengthAt, startMarkAt, domainAt, classWords, objectValuesAt, objectWords, classesAt, objectsAt, tableWords, classesMost, statementsMost, objectsMost, classCountAt, statementCountAt, objectCountAt}
+use Rattle.catalog.specs.View.{classWord, objectWord, classCount, objectCount, statementCount}
 use Rattle.output.specs.Each.{total-more}
 use Rattle.image.specs.Sizes.{values-le}
 use Rattle.machine_words.specs.Calls.{mark}
-use Rattle.machine_start.specs.Worked.{withEach, domainMask, withDomains, valuesOf, firstValue, withPlaces, withHeader}
-use Rattle.machine_start.specs.Beside.{Beside, beside-none, beside-then, beside-header, beside-domain, beside-place, beside-classes, beside-objects, beside-mask, beside-values, beside-first}
+use Rattle.machine_start.specs.Worked.{withEach, domainMask, withDomains, valuesOf, firstValue, withPlaces, withHeader, withCounts}
+use Rattle.machine_start.specs.Beside.{Beside, beside-none, beside-then, beside-header, beside-domain, beside-place, beside-classes, beside-objects, beside-mask, beside-values, beside-first, beside-class-count, beside-statement-count, beside-object-count}
 
 -- ---- a word for each number
 
@@ -102,6 +102,42 @@ pub record WorkedOut (ws : List ℕ) : Type 0 where
   pub places : (o : ℕ) → o < objectCount ws → objectWord ws o objectValuesAt ≡ firstValue ws o
   pub values : getD ws valueCountAt 0 ≡ firstValue ws (objectCount ws)
 
+-- The counts are within their limits.
+pub record Few (ws : List ℕ) : Type 0 where
+  pub classes : getD ws classCountAt 0 ≤ classesMost
+  pub statements : getD ws statementCountAt 0 ≤ statementsMost
+  pub objects : getD ws objectCountAt 0 ≤ objectsMost
+
+module _ (ws : List ℕ) (long : tableWords ≤ length ws) where
+  abbrev a : List ℕ
+  a = set ws classCountAt (classCount ws)
+
+  abbrev b : List ℕ
+  b = set a statementCountAt (statementCount a)
+
+  long-a : tableWords ≤ length a
+  long-a = omega (arith, length-set ws classCountAt (classCount ws))
+
+  long-b : tableWords ≤ length b
+  long-b = omega (arith, long-a, length-set a statementCountAt (statementCount a))
+
+  counts-beside : Beside ws (withCounts ws)
+  counts-beside = beside-then (beside-class-count ws long) (beside-then (beside-statement-count a long-a) (beside-object-count b long-b))
+
+  counts-high : (i : ℕ) → 3 ≤ i → getD (withCounts ws) i 0 ≡ getD ws i 0
+  counts-high i h =
+      getD-set-other b objectCountAt i (objectCount b) 0 (λ e. omega arith) ∙ getD-set-other a statementCountAt i (statementCount a) 0 (λ e. omega arith)
+      ∙ getD-set-other ws classCountAt i (classCount ws) 0 (λ e. omega arith)
+
+  counts-few : Few (withCounts ws)
+  counts-few =
+      let c = getD-set-other b objectCountAt classCountAt (objectCount b) 0 (λ e. omega arith)
+      ∙ getD-set-other a statementCountAt classCountAt (statementCount a) 0 (λ e. omega arith) ∙ getD-set-same ws classCountAt (classCount ws) 0 (omega arith) in
+      let s = getD-set-other b objectCountAt statementCountAt (objectCount b) 0 (λ e. omega arith)
+      ∙ getD-set-same a statementCountAt (statementCount a) 0 (omega (arith, long-a)) in
+      let o = getD-set-same b objectCountAt (objectCount b) 0 (omega (arith, long-b)) in
+      record { classes = omega arith; statements = omega arith; objects = omega arith }
+
 module _ (ws : List ℕ) (values size : ℕ) (long : tableWords ≤ length ws) where
   header-three : getD (withHeader ws values size) valueCountAt 0 ≡ values
   header-three =
@@ -117,11 +153,10 @@ module _ (ws : List ℕ) (values size : ℕ) (long : tableWords ≤ length ws) w
   header-five : getD (withHeader ws values size) startMarkAt 0 ≡ mark
   header-five = getD-set-same (set (set ws valueCountAt values) textLengthAt size) startMarkAt mark 0 (omega (arith, length-set (set ws valueCountAt values) textLengthAt size, length-set ws valueCountAt values))
 
-  header-high : (i : ℕ) → 8 ≤ i → getD (withHeader ws values size) i 0 ≡ getD ws i 0
-  header-high i h =
-      getD-set-other (set (set ws valueCountAt values) textLengthAt size) startMarkAt i mark 0 (λ e. omega arith)
-      ∙ getD-set-other (set ws valueCountAt values) textLengthAt i size 0 (λ e. omega arith)
-      ∙ getD-set-other ws valueCountAt i values 0 (λ e. omega arith)
+  header-else : (i : ℕ) → i ≢ valueCountAt → i ≢ textLengthAt → i ≢ startMarkAt → getD (withHeader ws values size) i 0 ≡ getD ws i 0
+  header-else i a b c =
+      getD-set-other (set (set ws valueCountAt values) textLengthAt size) startMarkAt i mark 0 c
+      ∙ getD-set-other (set ws valueCountAt values) textLengthAt i size 0 b ∙ getD-set-other ws valueCountAt i values 0 a
 
   header-beside : Beside ws (withHeader ws values size)
   header-beside =
@@ -133,6 +168,7 @@ module _ (ws : List ℕ) (values size : ℕ) (long : tableWords ≤ length ws) w
 pub record Stored (ws : List ℕ) (size : ℕ) (ws′ : List ℕ) : Type 0 where
   pub beside : Beside ws ws′
   pub worked : WorkedOut ws′
+  pub few : Few ws′
   pub text-length : getD ws′ textLengthAt 0 ≡ size
   pub marked : getD ws′ startMarkAt 0 ≡ mark
 
@@ -152,39 +188,58 @@ module _ (ws : List ℕ) (long : tableWords ≤ length ws) where
   long-third : tableWords ≤ length third
   long-third = omega (arith, long-second, places-beside second (objectCount second) (omega arith) .size)
 
+  abbrev fourth : List ℕ
+  fourth = withCounts third
+
+  long-fourth : tableWords ≤ length fourth
+  long-fourth = omega (arith, long-third, counts-beside third long-third .size)
+
   -- Step by step, as the code stores it.
-  pub stored : (size v : ℕ) (ws₂ ws₃ ws′ : List ℕ) → ws₂ ≡ second → ws₃ ≡ withPlaces ws₂ (objectCount ws₂) → v ≡ firstValue ws₂ (objectCount ws₂)
-      → ws′ ≡ withHeader ws₃ v size → Stored ws size ws′
+  pub stored : (size v : ℕ) (ws₂ ws₃ ws₄ ws′ : List ℕ) → ws₂ ≡ second → ws₃ ≡ withPlaces ws₂ (objectCount ws₂) → v ≡ firstValue ws₂ (objectCount ws₂)
+      → ws₄ ≡ withCounts ws₃ → ws′ ≡ withHeader ws₄ v size → Stored ws size ws′
   unfolding classWord objectWord
-  stored size v ws₂ ws₃ ws′ a b d e = subst (Stored ws size) (cc) (record {
+  stored size v ws₂ ws₃ ws₄ ws′ a b d c e = subst (Stored ws size) (cc) (record {
     beside = all;
     worked = record {
       domains = λ c l. domains c (omega (arith, beside-classes all)) ∙ sym (beside-mask all c);
       places = λ o l. places o (omega (arith, beside-objects late)) ∙ sym (beside-first late o (omega arith));
-      values = header-three third values size long-third ∙ sym (counted ∙ ap (firstValue second) (beside-objects late));
+      values = header-three fourth values size long-fourth ∙ sym (counted ∙ ap (firstValue second) (beside-objects late));
     };
-    text-length = header-four third values size long-third;
-    marked = header-five third values size long-third;
+    few = record {
+      classes = omega (arith, few .classes, header-else fourth values size long-fourth classCountAt (omega arith) (omega arith) (omega arith));
+      statements = omega (arith, few .statements, header-else fourth values size long-fourth statementCountAt (omega arith) (omega arith) (omega arith));
+      objects = omega (arith, few .objects, header-else fourth values size long-fourth objectCountAt (omega arith) (omega arith) (omega arith));
+    };
+    text-length = header-four fourth values size long-fourth;
+    marked = header-five fourth values size long-fourth;
   })
     where
+      few : Few fourth
+      few = counts-few third long-third
+
       last : List ℕ
-      last = withHeader third values size
+      last = withHeader fourth values size
 
       late : Beside second last
-      late = beside-then (places-beside second (objectCount second) (omega arith)) (header-beside third values size long-third)
+      late =
+          beside-then (places-beside second (objectCount second) (omega arith))
+          (beside-then (counts-beside third long-third) (header-beside fourth values size long-fourth))
+
+      high : (i : ℕ) → 8 ≤ i → getD last i 0 ≡ getD third i 0
+      high i h = header-else fourth values size long-fourth i (omega arith) (omega arith) (omega arith) ∙ counts-high third long-third i (omega arith)
 
       all : Beside ws last
       all = beside-then (domains-beside ws (classCount ws) (omega arith)) late
 
       domains : (c : ℕ) → c < classCount ws → classWord last c domainAt ≡ domainMask ws c
       domains c l =
-          header-high third values size long-third (classesAt + (c * classWords + 5)) (omega arith)
+          high (classesAt + (c * classWords + 5)) (omega arith)
           ∙ places-low second (objectCount second) (classesAt + (c * classWords + 5)) (omega arith)
           ∙ domains-at ws (classCount ws) (omega arith) long c l
 
       places : (o : ℕ) → o < objectCount second → objectWord last o objectValuesAt ≡ firstValue second o
       places o l =
-          header-high third values size long-third (objectsAt + (o * objectWords + 2)) (omega arith)
+          high (objectsAt + (o * objectWords + 2)) (omega arith)
           ∙ places-at second (objectCount second) (omega arith) long-second o l
 
       counted : firstValue last (objectCount last) ≡ firstValue second (objectCount last)

@@ -5,10 +5,10 @@ use mathlib.Core.Bool.{Bool, _||_}
 use mathlib.Core.List.{List}
 use lib.ListN.{set}
 use lib.Dec.{eqb}
-use Rattle.layout.specs.Layout.{valueCountAt, textLengthAt, startMarkAt, ancestorsAt, classWords, objectClassAt, objectWords, classesAt, objectsAt}
+use Rattle.layout.specs.Layout.{valueCountAt, textLengthAt, startMarkAt, ancestorsAt, classWords, objectClassAt, objectWords, classesAt, objectsAt, classCountAt, statementCountAt, objectCountAt}
 use Rattle.model.specs.Base.{upto}
 use Rattle.model.specs.Image.{mask}
-use Rattle.catalog.specs.View.{classWord, objectWord, classCount}
+use Rattle.catalog.specs.View.{classWord, objectWord, classCount, statementCount, objectCount}
 use Rattle.laws.specs.Bits.{bit}
 use Rattle.catalog.specs.Look.{shownCount}
 use Rattle.output.specs.Each.{total}
@@ -51,6 +51,13 @@ abbrev pub withPlaces : List ℕ → ℕ → List ℕ
 withPlaces ws n = withEach (λ o. objectsAt + (o * objectWords + 2)) (firstValue ws) ws n
 
 -- ---- what later calls must be lent
+
+-- The tables with their counts of classes, statements and objects written again, as far as there is room.
+abbrev pub withCounts : List ℕ → List ℕ
+withCounts ws =
+    let a = set ws classCountAt (classCount ws) in
+    let b = set a statementCountAt (statementCount a) in
+    set b objectCountAt (objectCount b)
 
 -- The tables with the number of values, the text's length, and the mark.
 abbrev pub withHeader : List ℕ → ℕ → ℕ → List ℕ

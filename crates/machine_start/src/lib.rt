@@ -6,7 +6,7 @@ ghost use mathlib.Core.List.{_++_};
 ghost use lib.ListN.{length, take, drop, replicate};
 ghost use Rattle.layout.specs.Layout.{tableWords, slotsWords, stateWords};
 ghost use Rattle.catalog.specs.View.{classCount, objectCount};
-ghost use Rattle.machine_start.specs.Worked.{belongs, domainMask, withDomains, firstValue, withPlaces, withHeader};
+ghost use Rattle.machine_start.specs.Worked.{belongs, domainMask, withDomains, firstValue, withPlaces, withCounts, withHeader};
 ghost use Rattle.machine_start.specs.Started.{Fill};
 
 // Whether the other class is in the domain of the class: it is the class, or has it among its ancestors.
@@ -63,6 +63,18 @@ fn fill_places(tables: &mut [u32]) -> u32
     values
 }
 
+// Writes the counts of classes, statements and objects again, as far as there is room: what later calls test first.
+fn put_counts(tables: &mut [u32])
+    ensures { λ _. ⌜ now (tables .exit) ≡ withCounts (now (tables .entry)) ⌝ }
+{
+    let classes = catalog::class_count(tables);
+    memory::put(tables, layout::CLASS_COUNT_AT, classes);
+    let statements = catalog::statement_count(tables);
+    memory::put(tables, layout::STATEMENT_COUNT_AT, statements);
+    let objects = catalog::object_count(tables);
+    memory::put(tables, layout::OBJECT_COUNT_AT, objects);
+}
+
 // Stores what later calls must be lent, the number of values and the text's length, and the mark.
 fn put_header(tables: &mut [u32], values: u32, size: usize)
     ensures { λ _. ⌜ now (tables .exit) ≡ withHeader (now (tables .entry)) values (size % 65536) ⌝ }
@@ -80,6 +92,7 @@ pub fn fill(text: &[u8], tables: &mut [u32])
     vector_compiler::fill::fill_vectors(text, tables);
     fill_domains(tables);
     let values = fill_places(tables);
+    put_counts(tables);
     put_header(tables, values, text.len());
 }
 

@@ -3,15 +3,27 @@ use catalog::body::Body;
 use machine_words::First;
 use machine_words::Wanted;
 ghost use mathlib.Core.Path.{_≡_};
-ghost use Rattle.machine_words.specs.Request.{firstOf, namedRow, pastRow, entered};
+ghost use Rattle.machine_words.specs.Request.{firstOf, namedRow, pastRow, entered, isSendable};
 ghost use Rattle.machine_words.specs.Calls.{rowOf, withRow};
 ghost use Rattle.machine_words.specs.Said.{asked, saidFirst};
 ghost use Rattle.machine_checks.specs.Lent.{Within};
+
+// Whether the target exists, and its class has the method.
+fn is_sendable(tables: &[u32], wanted: Wanted) -> bool
+    ensures { λ r. ⌜ r ≡ isSendable (now (tables .entry)) (asked wanted) ⌝ }
+{
+    machine_targets::visit::target_there(tables, wanted.kind, wanted.number)
+        & (wanted.class < catalog::class_count(tables))
+        & (wanted.place < catalog::member_count(tables, wanted.class, layout::METHODS))
+}
 
 // Where the send's message starts.
 pub fn first_object(text: &[u8], tables: &[u32], wanted: Wanted) -> First
     ensures { λ r. ⌜ saidFirst r ≡ firstOf (now (text .entry)) (now (tables .entry)) (asked wanted) ⌝ }
 {
+    if !is_sendable(tables, wanted) {
+        return First::Nowhere;
+    }
     let object = machine_targets::visit::object_from(tables, wanted.kind, wanted.number, 0);
     if catalog::object_count(tables) <= object {
         return First::Past(object);

@@ -38,7 +38,6 @@ fn write_request(waiting: &mut [u32], wanted: Wanted)
     ensures { λ _. ⌜ now (waiting .exit) ≡ requested (asked wanted) (now (waiting .entry)) ⌝ }
 {
     name_message(waiting, wanted);
-    memory::put(waiting, layout::CLASS_AT, wanted.class);
     memory::put(waiting, layout::PLACE_AT, wanted.place);
 }
 

@@ -7,14 +7,14 @@ use mathlib.Core.Option.{Option, none, some}
 use mathlib.Core.List.{List}
 use lib.ListN.{length, getD, set}
 use lib.Dec.{eqb, leb, ltb}
-use Rattle.layout.specs.Layout.{valuesMost, valueCountAt, textLengthAt, startMarkAt, methodNamesAt, objectClassAt, lineAt, stateWords, startMark, originUnit, closedPhase, idlePhase, runningPhase, waitingPhase, methodKind, objectKind, classKind, domainKind}
+use Rattle.layout.specs.Layout.{valuesMost, valueCountAt, textLengthAt, startMarkAt, objectClassAt, lineAt, stateWords, startMark, originUnit, closedPhase, idlePhase, runningPhase, waitingPhase, methodKind, objectKind, classKind, domainKind, classesMost, statementsMost, objectsMost, slotsMost, classCountAt, statementCountAt, objectCountAt}
 use Rattle.model.specs.Undo.{putBack}
 use Rattle.model.specs.Service.{Call, send, step, commit, abort, Answer, done, going, answer, refuse, held, stopped}
 use Rattle.model.specs.Machine.{object, class, domain, Request, to}
 use Rattle.catalog.specs.View.{objectWord, classWord, classCount, objectCount, memberCount}
 use Rattle.machine_words.specs.Row.{Left, noteAt, freed, carried}
 use Rattle.machine_words.specs.Turn.{decided}
-use Rattle.machine_words.specs.Request.{Wanted, lacking, ownsLocks, locked, First, on, past, nowhere, firstOf, entered}
+use Rattle.machine_words.specs.Request.{Wanted, wanted, lacking, ownsLocks, locked, First, on, past, nowhere, firstOf, entered}
 unfoldable pub use Rattle.machine_words.specs.Line.{tablesOf, rowStart, rowOf, withRow, phaseOf}
 use Rattle.machine_words.specs.Line.{waitingRow, withdrawn, countIn, withPlace, obstacle, closesCircle, woken}
 
@@ -49,6 +49,11 @@ refused x n = record { answered = refuse n; lent = x }
 
 -- ---- whether what is lent fits
 
+-- Whether the counts of classes, statements, objects and waiting slots are within their limits.
+unfoldable pub isCounted : List ℕ → Bool
+isCounted ws =
+    leb (getD ws classCountAt 0) classesMost && leb (getD ws statementCountAt 0) statementsMost && leb (getD ws objectCountAt 0) objectsMost && leb (getD ws lineAt 0) slotsMost
+
 -- Whether the words are those of a start on a text of this length and on as many values.
 abbrev pub isStarted : Lent → Bool
 isStarted x =
@@ -57,13 +62,10 @@ isStarted x =
 
 -- 21 for a short state, else 24; 0 where it fits.
 unfoldable pub misfitOf : Lent → ℕ
-misfitOf x = cond (ltb (length (x .words)) stateWords) 21 (cond (isStarted x) 0 24)
+unfolding isCounted
+misfitOf x = cond (ltb (length (x .words)) stateWords) 21 (cond (isStarted x && isCounted (x .words)) 0 24)
 
 -- ---- send
-
-abbrev pub wanted : List ℕ → ℕ → ℕ → ℕ → ℕ → ℕ → Wanted
-wanted tables kind n c k a =
-    record { kind = kind; number = n; class = c; place = k; name = classWord tables c (methodNamesAt + k) % originUnit; argument = a }
 
 -- What a granted send leaves: its slot is open, has its locks, and its message is at its start.
 abbrev pub startedAt : Lent → ℕ → Wanted → First → After

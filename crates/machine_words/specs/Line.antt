@@ -1,15 +1,16 @@
 -- The line over the words (02, Tickets 7 and 8): a waiting send in its slot's row, the places of the line, circles of waits, and the
 -- waking of those who wait.
-use Prim.Native.Nat.{ℕ, zero, suc, _+_, _*_, _%_}
+use Prim.Native.Nat.{ℕ, zero, suc, _+_, _*_}
 use mathlib.Core.Bool.{Bool, false, not, cond, _&&_, _||_}
 use mathlib.Core.Option.{Option, none, some}
 use mathlib.Core.List.{List}
 use lib.ListN.{getD, set, take, drop, replicate}
 use lib.Seq.{sets}
 use lib.Dec.{eqb, leb, ltb}
-use Rattle.layout.specs.Layout.{tableWords, phaseAt, kindAt, numberAt, nameAt, argumentAt, classAt, placeAt, waitingAt, waitingWords, rowWords, lineAt, firstInLineAt, closedPhase, idlePhase, waitingPhase}
+use Rattle.layout.specs.Layout.{tableWords, phaseAt, kindAt, numberAt, argumentAt, placeAt, waitingAt, waitingWords, rowWords, lineAt, firstInLineAt, closedPhase, idlePhase, waitingPhase}
 use Rattle.model.specs.Base.{any, least, leads}
-use Rattle.machine_words.specs.Request.{Wanted, rowMeets, locked, First, on, past, nowhere, firstOf, namedRow, entered}
+use Rattle.catalog.specs.View.{classWord}
+use Rattle.machine_words.specs.Request.{Wanted, wanted, classFor, rowMeets, locked, First, on, past, nowhere, firstOf, namedRow, entered}
 
 abbrev pub tablesOf : List ℕ → List ℕ
 tablesOf ws = take tableWords ws
@@ -33,22 +34,18 @@ phaseOf row = getD row phaseAt 0
 unfoldable pub waitingIn : List ℕ → List ℕ
 waitingIn row = take waitingWords (drop waitingAt row)
 
--- The send that such words hold.
-unfoldable pub wantedIn : List ℕ → Wanted
-wantedIn waiting =
-    record {
-      kind = getD waiting kindAt 0;
-      number = getD waiting numberAt 0;
-      class = getD waiting classAt 0;
-      place = getD waiting placeAt 0 % 32;
-      name = getD waiting nameAt 0;
-      argument = getD waiting argumentAt 0;
-    }
+-- The send that such words hold: its target, its method's place and its argument; class and name are those of the tables.
+unfoldable pub wantedIn : List ℕ → List ℕ → Wanted
+unfolding classFor classWord
+wantedIn tables waiting =
+    let kind = getD waiting kindAt 0 in
+    let n = getD waiting numberAt 0 in
+    wanted tables kind n (classFor tables kind n) (getD waiting placeAt 0) (getD waiting argumentAt 0)
 
 -- The words with a send's target, method and argument.
 unfoldable pub requested : Wanted → List ℕ → List ℕ
 unfolding namedRow
-requested q waiting = set (set (namedRow q waiting) classAt (q .class)) placeAt (q .place)
+requested q waiting = set (namedRow q waiting) placeAt (q .place)
 
 -- The row with a send that waits: the send's words with its locks, and its phase. The locks are not the slot's yet.
 unfoldable pub waitingRow : List ℕ → List ℕ → Wanted → List ℕ → List ℕ
@@ -82,10 +79,20 @@ unfoldable pub holderAt : List ℕ → (List ℕ → Bool) → ℕ → Bool
 unfolding rowOf
 holderAt ws test t = not (eqb (phaseOf (rowOf ws t)) closedPhase) && test (rowOf ws t)
 
--- Whether slot t is one of the first n in line and its waiting send's locks pass the test.
+-- Whether slot t exists and waits.
+unfoldable pub isWaiting : List ℕ → ℕ → Bool
+unfolding rowOf
+isWaiting ws t = ltb t 8 && eqb (phaseOf (rowOf ws t)) waitingPhase
+
+-- Whether slot t is one of the first n in line, and waits.
+unfoldable pub waitsAhead : List ℕ → ℕ → ℕ → Bool
+unfolding isWaiting any
+waitsAhead ws n t = any (eqb t) (firstInLine ws n) && isWaiting ws t
+
+-- Whether slot t is one of those, and its waiting send's locks pass the test.
 unfoldable pub waiterAt : List ℕ → ℕ → (List ℕ → Bool) → ℕ → Bool
-unfolding rowOf waitingIn any
-waiterAt ws n test t = any (eqb t) (firstInLine ws n) && test (waitingIn (rowOf ws t))
+unfolding rowOf waitingIn waitsAhead
+waiterAt ws n test t = waitsAhead ws n t && test (waitingIn (rowOf ws t))
 
 abbrev pub blocks : List ℕ → ℕ → (List ℕ → Bool) → ℕ → Bool
 blocks ws n test t = holderAt ws test t || waiterAt ws n test t
@@ -102,12 +109,16 @@ obstacle text ws n s q = least (inTheWay text ws n s q) 8
 
 -- ---- circles
 
--- Whether slot u stands at one of `left` places of the line, from place i on, and slot t is in the way of its waiting send.
+-- The waiting send of slot t.
+abbrev pub waitingSend : List ℕ → ℕ → Wanted
+waitingSend ws t = wantedIn (tablesOf ws) (waitingIn (rowOf ws t))
+
+-- Whether slot u stands at one of `left` places of the line, from place i on, and waits, and slot t is in the way of its waiting send.
 unfoldable pub waitsFrom : List ℕ → List ℕ → ℕ → ℕ → ℕ → ℕ → Bool
-unfolding inTheWay rowOf waitingIn wantedIn
+unfolding isWaiting inTheWay rowOf waitingIn wantedIn
 waitsFrom text ws i zero u t = false
 waitsFrom text ws i (suc left) u t =
-    (eqb (slotAt ws i) u && inTheWay text ws i u (wantedIn (waitingIn (rowOf ws u))) t) || waitsFrom text ws (suc i) left u t
+    (eqb (slotAt ws i) u && (isWaiting ws u && inTheWay text ws i u (waitingSend ws u) t)) || waitsFrom text ws (suc i) left u t
 
 -- Whether slot u waits for slot t, with a send of slot s as the last in line (02, Ticket 8).
 unfoldable pub waitsFor : List ℕ → List ℕ → ℕ → Wanted → ℕ → ℕ → Bool
@@ -145,16 +156,11 @@ abbrev pub wokenOr : List ℕ → List ℕ → ℕ → ℕ → Wanted → Option
 wokenOr text ws n t q (some k) = keptAt ws n t
 wokenOr text ws n t q none = startedOrKept text ws n t q (firstOf text (tablesOf ws) q)
 
--- Whether slot t exists and waits.
-unfoldable pub isWaiting : List ℕ → ℕ → Bool
-unfolding rowOf
-isWaiting ws t = ltb t 8 && eqb (phaseOf (rowOf ws t)) waitingPhase
-
 -- One slot of the line woken; a slot that does not wait leaves the line.
 unfoldable pub wokenSlot : List ℕ → List ℕ → ℕ → ℕ → Waking
 unfolding isWaiting obstacle rowOf waitingIn wantedIn withdrawn firstOf entered locked
 wokenSlot text ws n t =
-    let q = wantedIn (waitingIn (rowOf ws t)) in
+    let q = waitingSend ws t in
     let stays : Waking = record { waiting = n; words = ws } in
     cond (isWaiting ws t) (wokenOr text ws n t q (obstacle text ws n t q)) stays
 

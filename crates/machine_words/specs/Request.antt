@@ -1,19 +1,19 @@
 -- A send over the words: its target, which slots' locks are in its way, and what it leaves in its slot's row.
-use Prim.Native.Nat.{ℕ, _+_, _-_, _^_}
+use Prim.Native.Nat.{ℕ, _+_, _-_, _%_, _^_}
 use mathlib.Core.Bool.{Bool, not, cond, _&&_}
 use mathlib.Core.Option.{Option, none, some}
 use mathlib.Core.List.{List}
 use lib.ListN.{getD, set}
 use lib.Bits.{bitAnd, bitOr}
 use lib.Dec.{eqb, leb, ltb}
-use Rattle.layout.specs.Layout.{domainAt, commutingAt, objectClassAt, phaseAt, depthAt, stepsAt, sumAt, objectAt, kindAt, numberAt, nameAt, argumentAt, objectLocksAt, classLocksAt, wholeLocksAt, methodKind, objectKind, classKind, domainKind, runningPhase}
+use Rattle.layout.specs.Layout.{domainAt, commutingAt, objectClassAt, phaseAt, depthAt, stepsAt, sumAt, objectAt, kindAt, numberAt, nameAt, argumentAt, objectLocksAt, classLocksAt, wholeLocksAt, methodKind, objectKind, classKind, domainKind, runningPhase, methodNamesAt, originUnit}
 use Rattle.model.specs.Base.{fold, upto, any}
 use Rattle.model.specs.Library.{Member, memberPlace}
 use Rattle.catalog.specs.View.{nameOf, objectWord, classWord, classCount, objectCount, memberCount, membersOf}
 use Rattle.laws.specs.Bits.{bit}
 use Rattle.machine_words.specs.Row.{withBits, objectRow}
 use Rattle.catalog.specs.Bodies.{bodyAt}
-use Rattle.machine_words.specs.Turn.{objectFrom}
+use Rattle.machine_words.specs.Turn.{targetThere, objectFrom}
 
 -- A send's target, an object, a class or a domain by its kind and number, with the class that has the method,
 -- the method's place there, its name's word, and the send's argument.
@@ -24,6 +24,21 @@ pub record Wanted : Type 0 where
   pub place : ℕ
   pub name : ℕ
   pub argument : ℕ
+
+-- The send to such a target for the method at place k of class c, with argument a.
+abbrev pub wanted : List ℕ → ℕ → ℕ → ℕ → ℕ → ℕ → Wanted
+wanted tables kind n c k a =
+    record { kind = kind; number = n; class = c; place = k; name = classWord tables c (methodNamesAt + k) % originUnit; argument = a }
+
+-- The class that has a target's methods: the object's class, or the class itself.
+unfoldable pub classFor : List ℕ → ℕ → ℕ → ℕ
+unfolding objectWord
+classFor tables kind n = cond (eqb kind objectKind) (objectWord tables n objectClassAt) n
+
+-- Whether the target exists, and its class has the method.
+unfoldable pub isSendable : List ℕ → Wanted → Bool
+unfolding targetThere memberCount
+isSendable tables q = targetThere tables (q .kind) (q .number) && ltb (q .class) (classCount tables) && ltb (q .place) (memberCount tables (q .class) methodKind)
 
 -- ---- locks
 
@@ -106,7 +121,7 @@ ownsLocks text tables q row =
 -- ---- the message
 
 -- Where a message starts: on an object, with its method's first statement there and the one past its last; past the last object,
--- where there is none to visit; or nowhere, where its first object has no such method.
+-- where there is none to visit; or nowhere, where there is no such target or method, or its first object has no such method.
 pub data First : Type 0 where
   on : ℕ → ℕ → ℕ → First
   past : ℕ → First
@@ -116,11 +131,14 @@ abbrev pub firstOn : ℕ → Option Member → First
 firstOn o none = nowhere
 firstOn o (some b) = on o (b .first) (b .first + b .count)
 
-unfoldable pub firstOf : List ℕ → List ℕ → Wanted → First
-unfolding objectFrom bodyAt objectWord
-firstOf text tables q =
+abbrev pub firstFound : List ℕ → List ℕ → Wanted → First
+firstFound text tables q =
     let o = objectFrom tables (q .kind) (q .number) 0 in
     cond (ltb o (objectCount tables)) (firstOn o (bodyAt text tables (objectWord tables o objectClassAt) (q .place) (q .name))) (past o)
+
+unfoldable pub firstOf : List ℕ → List ℕ → Wanted → First
+unfolding isSendable objectFrom bodyAt objectWord
+firstOf text tables q = cond (isSendable tables q) (firstFound text tables q) nowhere
 
 -- The row with a running message: its target, name and argument.
 unfoldable pub namedRow : Wanted → List ℕ → List ℕ

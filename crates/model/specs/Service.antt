@@ -1,6 +1,6 @@
 -- The machine's slots and calls, and the plain course, over any kind of messages, locks and undo notes (01, "The machine", "The
--- plain course", the numbers 31 to 41). 01's own messages, locks and undo notes are in Message, Lock, Undo and Alone; Machine
--- puts the two together.
+-- plain course", the numbers 31, 32, 34 to 37 and 40 to 42). 01's own messages, locks and undo notes are in Message, Lock, Undo and
+-- Alone; Machine puts the two together.
 use Prim.Native.Nat.{ℕ}
 use mathlib.Core.Bool.{Bool, true, false, not, _&&_, _||_}
 use mathlib.Core.Option.{Option, none, some}
@@ -63,8 +63,8 @@ pub data Call (Request : Type 0) : Type 0 where
   send : ℕ → Request → Call Request
   step commit abort : ℕ → Call Request
 
--- The answer of a call: done (a send: granted), "going", the message's answer, a tablet's number 31 to 37 or 42, 40 with the
--- lowest clashing slot, or 41.
+-- The answer of a call: done (a send: granted), "going", or the message's answer; or a number. `refuse` has the tablet's 31, 32 and 34 to
+-- 37, and 42, which like 40 comes from another transaction; `held` is 40 with the lowest clashing slot; `stopped` is 41.
 pub data Answer : Type 0 where
   done going : Answer
   answer : ℕ → Answer

@@ -2,9 +2,12 @@
 use Prim.Native.Nat.{ℕ, _≤_}
 use native.Mathlib.Omega.{arith}
 use mathlib.Core.Path.{_≡_, refl, sym, ap, _∙_}
+use mathlib.Core.Bool.{Bool, true, false}
 use mathlib.Core.List.{List, [], _∷_, _++_, flatten}
 use lib.ListN.{length, take, drop}
-use lib.Seq.{take-at}
+use lib.Seq.{take-all, take-at, length-take-le}
+use lib.Dec.{ltb}
+use borrow.Author.Tests.{ltb-true, ltb-false, lt-ltb}
 use Rattle.model.specs.Read.{Reading, accepted, refused, read}
 use Rattle.model.specs.Vector.{program}
 use Rattle.model.specs.Service.{fresh}
@@ -30,6 +33,13 @@ pub data Played : Lent → List ℕ → ℕ → List (List ℕ) → List (List �
   then : {x x₁ x₂ : Lent} {line part out line₁ out₁ line₂ : List ℕ} {kept read kept₁ size₁ kept₂ : ℕ} {parts outs : List (List ℕ)}
       → Feeds x line kept part out read x₁ line₁ kept₁ out₁ size₁ → Played x₁ line₁ kept₁ parts outs x₂ line₂ kept₂
       → Played x line kept (take read part ∷ parts) (take size₁ out₁ ∷ outs) x₂ line₂ kept₂
+
+-- One part more at the end.
+pub played-then : {x y z : Lent} {line line₁ part out line₂ out₁ : List ℕ} {kept kept₁ read kept₂ size₁ : ℕ} {parts outs : List (List ℕ)}
+    → Played x line kept parts outs y line₁ kept₁ → Feeds y line₁ kept₁ part out read z line₂ kept₂ out₁ size₁
+    → Played x line kept (parts ++ (take read part ∷ [])) (outs ++ (take size₁ out₁ ∷ [])) z line₂ kept₂
+played-then none f = then f none
+played-then (then g p) f = then g (played-then p f)
 
 all-fed : {x y : Lent} {line line′ : List ℕ} {most kept kept′ : ℕ} {parts outs : List (List ℕ)} → length line ≡ most
     → Played x line kept parts outs y line′ kept′ → Fed onLent most x (take kept line) parts outs y (take kept′ line′)
@@ -93,3 +103,28 @@ rehearsal-prints {text} {parts = parts} (play {outs = outs} p most f long e) =
     ap (λ (l : List ℕ). flatten outs ++ l) (printed-front (e .printed) (omega (arith, e .few, e .printed .count)))
     ∙ parts-print most f
     ∙ ready-prints p (flatten parts)
+
+-- ---- the front of a text
+
+-- 01: at most "32,768 bytes", and "11 text too long" with more. So many bytes of a text decide what is rehearsed.
+abbrev pub textRoom : ℕ
+textRoom = 32769
+
+front-read : (text : List ℕ) → read (take textRoom text) ≡ read text
+unfolding read
+front-read text = go (ltb textRoom (length text)) refl
+  where
+    go : (t : Bool) → ltb textRoom (length text) ≡ t → read (take textRoom text) ≡ read text
+    go false t = ap read (take-all textRoom text (ltb-false textRoom (length text) t))
+    go true t =
+        let long = ltb-true textRoom (length text) t in
+        let front = length-take-le textRoom text (omega arith) in
+        rw (lt-ltb 32768 (length (take textRoom text)) (omega arith), lt-ltb 32768 (length text) (omega arith))
+
+pub front-rehearsed : (text calls : List ℕ) → rehearsed (take textRoom text) calls ≡ rehearsed text calls
+unfolding rehearsed
+front-rehearsed text calls = ap (λ (r : Reading). rehearsedOn r calls) (front-read text)
+
+-- A rehearsal on so many bytes of a text is one on the text.
+pub front-prints : (text : List ℕ) {written : List ℕ} {parts : List (List ℕ)} → Rehearses (take textRoom text) parts written → written ≡ rehearsed text (flatten parts)
+front-prints text {parts = parts} r = rehearsal-prints r ∙ front-rehearsed text (flatten parts)

@@ -44,7 +44,7 @@ module _ (p : Program) (values : List ℕ) (cs : List Call) where
     pub same-answers : All Right (plain .compared)
     pub as-new : (more : List Call) → runCalls (service p) left more ≡ runCalls (service p) (fresh (service p) (plain .fields)) more
 
-  -- The two theorems of locking, for this machine.
+  -- The claims of twophase/Claims, for this machine.
   serial : Compiled p → NothingOpen → Serial (service p) left plain
   unfolding laws
   serial compiled nothing-open =

@@ -10,5 +10,6 @@ pub mod UndoLaws
 pub mod Alone
 pub mod ServiceLaws
 pub mod CommitOrder
+pub mod Compared
 pub mod Waiting
 pub mod Holding

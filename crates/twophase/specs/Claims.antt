@@ -1,4 +1,5 @@
--- The claims of the theory: the statements of its two theorems, over any service.
+-- What is claimed over any service of a list of calls that leaves nothing open, and of each moment. Waiting and InTime have the line's
+-- promises, Compared which answers are compared.
 use Prim.Native.Nat.{ℕ, zero, suc}
 use mathlib.Core.Path.{_≡_}
 use mathlib.Core.Option.{some}

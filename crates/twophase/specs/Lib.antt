@@ -11,4 +11,6 @@ pub mod Waking
 pub mod Theorem
 pub mod Deadlock
 pub mod Waiting
+pub mod InTime
+pub mod Compared
 pub mod Aborts

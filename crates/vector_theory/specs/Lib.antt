@@ -1,3 +1,4 @@
 pub mod Reachability
 pub mod Lawful
 pub mod VectorLaws
+pub mod Direct

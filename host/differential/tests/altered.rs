@@ -1,8 +1,8 @@
 //! Calls on altered, shortened and exchanged memory. CISHMOLAQ_ALTERED sets how many generated machines are altered;
 //! CISHMOLAQ_APART=n alters each n-th word or byte only (valgrind is slow).
 
-use differential::altered::Memory;
-use differential::machine::{added_up, Counts};
+use differential::altered::{in_line, is_noted, row_at, Memory, ROOMS, WAITING};
+use differential::machine::{added_up, Counts, ORDERS};
 use differential::{amount, each_seed};
 use generate::calls::{text_to_call, values_for, Caller};
 use generate::{limits, Random};
@@ -394,7 +394,7 @@ fn locks_of_a_closed_slot() {
 }
 
 /// Slot 0 tunes the first lane, and these slots wait to do so, in this order.
-fn in_line(slots: &[u32]) -> Memory {
+fn tuned_by_turns(slots: &[u32]) -> Memory {
     let mut memory = after(&[send(0, Target::Object(1), TUNE)]);
     for &slot in slots {
         assert_eq!(memory.call(send(slot, Target::Object(1), TUNE)), Answer::Held(0));
@@ -402,23 +402,16 @@ fn in_line(slots: &[u32]) -> Memory {
     memory
 }
 
-/// What the words say of the line: the slots that wait.
-fn line(memory: &Memory) -> Vec<u32> {
-    memory.state()[layout::FIRST_IN_LINE_AT..][..memory.state()[layout::LINE_AT] as usize].to_vec()
-}
-
-/// A line that is full has no place for a send that would join, and one that counts more than its places counts as full.
+/// A line that is full has no place for a send that would join.
 #[test]
 fn no_place_in_line() {
-    for count in [8, 9, 255, 1 << 31, u32::MAX] {
-        let mut memory = in_line(&[3, 5]);
-        memory.put_word(layout::LINE_AT, count);
-        for target in [Target::Object(1), Target::Class(1), Target::Domain(0)] {
-            assert_eq!(memory.call(send(6, target, 0)), Answer::Refused(24), "{target:?} with {count} in line");
-        }
-        assert_eq!(memory.call(Call::Abort(0)), Answer::Done);
-        assert_eq!(line(&memory), [5], "{count} in line");
+    let mut memory = tuned_by_turns(&[3, 5]);
+    memory.put_word(layout::LINE_AT, 8);
+    for target in [Target::Object(1), Target::Class(1), Target::Domain(0)] {
+        assert_eq!(memory.call(send(6, target, 0)), Answer::Refused(24), "{target:?}");
     }
+    assert_eq!(memory.call(Call::Abort(0)), Answer::Done);
+    assert_eq!(in_line(memory.state()), [5]);
 }
 
 /// A place of the line that names no slot, or one that does not wait: it leaves the line at the next end, and the others start in their
@@ -426,10 +419,10 @@ fn no_place_in_line() {
 #[test]
 fn others_in_line() {
     for word in [1, 0, 8, 31, 1 << 31, u32::MAX] {
-        let mut memory = in_line(&[2, 3, 5]);
+        let mut memory = tuned_by_turns(&[2, 3, 5]);
         memory.put_word(layout::FIRST_IN_LINE_AT, word);
         assert_eq!(memory.call(Call::Abort(0)), Answer::Done);
-        assert_eq!(line(&memory), [5], "place 0 has {word}");
+        assert_eq!(in_line(memory.state()), [5], "place 0 has {word}");
         assert_eq!(memory.call(Call::Step(3)), Answer::Going);
         // The one that lost its place waits until it is withdrawn.
         for call in [Call::Step(2), Call::Commit(2), send(2, Target::Object(0), 0)] {
@@ -438,6 +431,20 @@ fn others_in_line() {
         assert_eq!(memory.call(Call::Abort(2)), Answer::Done);
         assert_eq!(memory.call(Call::Commit(2)), Answer::Refused(32));
     }
+}
+
+/// A slot twice in line waits at both places, and starts once.
+#[test]
+fn twice_in_line() {
+    let mut memory = tuned_by_turns(&[3, 5, 6]);
+    memory.put_word(layout::FIRST_IN_LINE_AT + 2, 5);
+    assert_eq!(memory.call(Call::Abort(0)), Answer::Done);
+    assert_eq!(in_line(memory.state()), [5, 5]);
+    assert_eq!(memory.call(send(1, Target::Object(1), TUNE)), Answer::Held(3));
+    assert_eq!(memory.call(Call::Abort(3)), Answer::Done);
+    assert_eq!(in_line(memory.state()), [1]);
+    assert_eq!(memory.call(Call::Step(5)), Answer::Going);
+    assert_eq!(memory.call(Call::Step(6)), Answer::Refused(37));
 }
 
 /// A slot whose phase alone says that it waits is told 37, and its abort closes it.
@@ -452,6 +459,271 @@ fn waiting_out_of_line() {
         assert_eq!(memory.call(Call::Abort(0)), Answer::Done);
         assert_eq!(memory.call(Call::Abort(0)), Answer::Refused(32));
     }
+}
+
+/// A count past its room: every call is 24, on a slot that is not there too. Among them are 1,000 classes, 99 objects and nine in line.
+#[test]
+fn counts_past_their_room() {
+    for base in at_work() {
+        for (place, room) in ROOMS {
+            for count in [room + 1, 99, 1_000, 4_097, 1 << 31, u32::MAX].into_iter().filter(|&count| count > room) {
+                let mut state = base.state().to_vec();
+                state[place] = count;
+                refused(base.text(), &state, base.values(), 24);
+            }
+        }
+    }
+}
+
+/// What a word is set to: low numbers and the first past each kind, phase, slot and room, an object whose lock would stand among the notes
+/// of a row, the highest numbers, and the word's neighbours.
+fn tried(word: u32) -> [u32; 17] {
+    [0, 1, 2, 3, 4, 7, 8, 9, 31, 32, 64, 447, 1 << 31, u32::MAX, word ^ 1, word.wrapping_add(1), word.wrapping_sub(1)]
+}
+
+/// Each call on each slot, and on one that is not there.
+fn each_call() -> Vec<Call> {
+    (0..9).flat_map(|slot| {
+        let sends = [send(slot, Target::Object(1), TUNE), send(slot, Target::Class(1), TALLY), send(slot, Target::Domain(0), 0)];
+        [Call::Step(slot), Call::Commit(slot), Call::Abort(slot)].into_iter().chain(sends)
+    }).collect()
+}
+
+/// The values that some row has noted.
+fn noted_values(memory: &Memory) -> Vec<usize> {
+    (0..memory.values().len()).filter(|&value| (0..8).any(|slot| is_noted(memory.state(), slot, value))).collect()
+}
+
+/// Makes a call, then aborts the slots in this order, where the call alters something: whether it does. No value differs in the end but
+/// those that a transaction had noted.
+fn call_and_abort(memory: &mut Memory, call: Option<Call>, order: &[u32]) -> bool {
+    let first = memory.values().to_vec();
+    let mut all = noted_values(memory);
+    if matches!(call.map(|call| memory.call(call)), Some(Answer::Refused(_))) {
+        return false;
+    }
+    for &slot in order {
+        all.extend(noted_values(memory));
+        memory.call(Call::Abort(slot));
+    }
+    for value in (0..first.len()).filter(|value| !all.contains(value)) {
+        assert_eq!(memory.values()[value], first[value], "value {value} after {call:?} and aborts in the order {order:?}");
+    }
+    true
+}
+
+/// Each call on this memory by itself, and none, with aborts of all slots after it: the values in the end.
+fn each_call_on(memory: &mut Memory) -> Vec<Vec<u32>> {
+    let (state, values) = (memory.state().to_vec(), memory.values().to_vec());
+    let mut in_the_end = Vec::new();
+    for (k, call) in [None].into_iter().chain(each_call().into_iter().map(Some)).enumerate() {
+        if call_and_abort(memory, call, &ORDERS[k % 2]) {
+            in_the_end.push(memory.values().to_vec());
+            memory.set(&state, &values);
+        }
+    }
+    in_the_end
+}
+
+/// A machine with a line: slots 7, 4 and 2 wait, for an object, a domain and a class; slot 4 has an earlier send.
+fn with_a_line() -> (Memory, [usize; 3]) {
+    let memory = at_work().pop().unwrap();
+    assert_eq!(in_line(memory.state()), [7, 4, 2]);
+    (memory, [7, 4, 2])
+}
+
+/// Whether a word of a row means something on this text: it is not spare, nor the mark or the note of a value that is not there.
+fn is_used(word: usize) -> bool {
+    let marks = [layout::MARKS_AT, layout::SET_MARKS_AT].contains(&word);
+    word < layout::MARKS_AT || marks || WAITING.contains(&word) || (layout::NOTES_AT..layout::NOTES_AT + VALUES.len()).contains(&word)
+}
+
+/// Each word of the rows of slots that wait. Where it is a word of the send by which they wait, the values in the end are those without
+/// the alteration.
+#[test]
+fn each_word_of_a_waiting_row() {
+    let (base, waiting) = with_a_line();
+    let right = each_call_on(&mut Memory::new(base.text(), base.state(), base.values()));
+    let parts = each_seed(3 * 64, |part| {
+        let (slot, part) = (waiting[part as usize % 3], part as usize / 3);
+        let mut memory = Memory::new(base.text(), base.state(), base.values());
+        for word in (part..ROW_WORDS).step_by(64).step_by(apart()) {
+            let place = row_at(slot, word);
+            let words = if is_used(word) { tried(base.state()[place]).to_vec() } else { vec![u32::MAX] };
+            for new in words {
+                memory.set(base.state(), base.values());
+                memory.put_word(place, new);
+                let in_the_end = each_call_on(&mut memory);
+                if WAITING.contains(&word) {
+                    assert!(in_the_end.iter().all(|values| right.contains(values)), "word {word} of slot {slot} set to {new}: {in_the_end:?}");
+                }
+            }
+        }
+        memory.counts
+    });
+    given(&added_up(parts), &["ok", "going", "24", "31", "32", "34", "35", "37", "40", "42"]);
+}
+
+/// Each word of the line, and each three slots in it.
+#[test]
+fn each_word_of_the_line() {
+    let (base, _) = with_a_line();
+    let right = each_call_on(&mut Memory::new(base.text(), base.state(), base.values()));
+    let words = layout::LINE_AT..layout::LINE_AT + layout::LINE_WORDS;
+    let one = words.flat_map(|place| tried(base.state()[place]).map(|word| vec![(place, word)]));
+    let slots = |n: u32| [n % 9, n / 9 % 9, n / 81].map(|slot| if slot == 8 { 1 << 31 } else { slot });
+    let three = (0..729).map(|n| (layout::FIRST_IN_LINE_AT..).zip(slots(n)).collect());
+    let altered: Vec<Vec<(usize, u32)>> = one.chain(three).collect();
+    let parts = each_seed(altered.len() as u64, |n| {
+        let mut memory = Memory::new(base.text(), base.state(), base.values());
+        altered[n as usize].iter().for_each(|&(place, word)| memory.put_word(place, word));
+        if memory.state()[layout::LINE_AT] <= 8 {
+            let in_the_end = each_call_on(&mut memory);
+            assert!(in_the_end.iter().all(|values| right.contains(values)), "{:?}: {in_the_end:?}", altered[n as usize]);
+        } else {
+            refused(memory.text(), memory.state(), memory.values(), 24);
+        }
+        memory.counts
+    });
+    given(&added_up(parts), &["ok", "going", "24", "31", "32", "34", "35", "37", "40", "42"]);
+}
+
+/// Each count within its room, and each word of the head.
+#[test]
+fn each_word_of_the_head() {
+    let rooms = ROOMS.iter().flat_map(|&(place, room)| (0..=room).step_by(room as usize / 64 + 1).map(move |count| (place, count)));
+    let words = (0..layout::HEAD_WORDS).flat_map(|place| [0, 1, 2, 3, 7, 9, 15, 447, 1 << 31, u32::MAX].map(|word| (place, word)));
+    let altered: Vec<(usize, u32)> = rooms.chain(words).collect();
+    let mut all = Vec::new();
+    for base in at_work() {
+        all.extend(each_seed(altered.len() as u64, |n| {
+            let mut memory = Memory::new(base.text(), base.state(), base.values());
+            let (place, word) = altered[n as usize];
+            memory.put_word(place, word);
+            each_call_on(&mut memory);
+            memory.counts
+        }));
+    }
+    given(&added_up(all), &["ok", "going", "24", "31", "32", "34", "35", "36", "37", "40", "42"]);
+}
+
+/// The orders of these slots.
+fn orders(slots: &[u32]) -> Vec<Vec<u32>> {
+    match slots {
+        [] => vec![Vec::new()],
+        _ => slots.iter().flat_map(|&first| {
+            let others: Vec<u32> = slots.iter().copied().filter(|&slot| slot != first).collect();
+            orders(&others).into_iter().map(move |order| [vec![first], order].concat())
+        }).collect(),
+    }
+}
+
+/// Aborts of all open slots, in each order, where a waiting send has another target, method or argument: the values are those of the start.
+#[test]
+fn aborts_in_each_order() {
+    let (base, waiting) = with_a_line();
+    let orders = orders(&[0, 2, 4, 5, 7]);
+    let words = [layout::KIND_AT, layout::NUMBER_AT, layout::NAME_AT, layout::ARGUMENT_AT, layout::PLACE_AT];
+    let mut memory = Memory::new(base.text(), base.state(), base.values());
+    for place in waiting.into_iter().flat_map(|slot| words.map(|word| row_at(slot, WAITING.start + word))) {
+        for word in tried(base.state()[place]) {
+            for order in &orders {
+                memory.set(base.state(), base.values());
+                memory.put_word(place, word);
+                call_and_abort(&mut memory, None, order);
+                assert_eq!(memory.values(), VALUES, "word {place} set to {word}, {order:?}");
+            }
+        }
+    }
+}
+
+/// The words of a waiting send that no call reads: spare ones, those of a message that runs, and the method's name, which the tables have.
+#[test]
+fn unread_words_of_a_waiting_send() {
+    let (base, waiting) = with_a_line();
+    let mut memory = Memory::new(base.text(), base.state(), base.values());
+    let mut made = |place: usize, word: u32, call: Call| {
+        memory.set(base.state(), base.values());
+        memory.put_word(place, word);
+        let answer = memory.call(call);
+        // The word itself goes with its send.
+        let same = (memory.state()[place], base.state()[place]);
+        memory.put_word(place, if same.0 == word { same.1 } else { same.0 });
+        (answer, memory.state().to_vec(), memory.values().to_vec())
+    };
+    let read = |word: &usize| [layout::KIND_AT, layout::NUMBER_AT, layout::ARGUMENT_AT, layout::PLACE_AT].contains(word);
+    let ends = [Call::Commit(5), Call::Abort(5), Call::Abort(0), send(1, Target::Object(1), TUNE), send(5, Target::Object(1), TUNE)];
+    for slot in waiting {
+        for word in (0..layout::OBJECT_LOCKS_AT).filter(|word| !read(word)) {
+            let place = row_at(slot, WAITING.start + word);
+            for call in ends {
+                let right = made(place, base.state()[place], call);
+                for new in [1, 5, u32::MAX] {
+                    assert!(made(place, new, call) == right, "{call:?} with word {word} of the send of slot {slot} set to {new}");
+                }
+            }
+        }
+    }
+}
+
+/// Slot 0 has the answer of a plot on the first lane, and slot 3 waits to plot it.
+fn one_waiting() -> Memory {
+    let mut memory = after(&[vec![send(0, Target::Object(1), PLOT)], vec![Call::Step(0); 3]].concat());
+    assert_eq!(memory.call(send(3, Target::Object(1), PLOT)), Answer::Held(0));
+    memory
+}
+
+/// An object that is not there, whose lock would stand among the marks, the notes or the words of the waiting send (447: the note of value
+/// 5). No value is altered by the commit, nor by the abort after it.
+#[test]
+fn lock_among_the_notes() {
+    let base = one_waiting();
+    let mut memory = Memory::new(base.text(), base.state(), base.values());
+    for number in [447, 3, 4, 63].into_iter().chain(64..(ROW_WORDS - layout::OBJECT_LOCKS_AT) as u32) {
+        memory.set(base.state(), base.values());
+        memory.put_word(row_at(3, WAITING.start + layout::NUMBER_AT), number);
+        assert_eq!(memory.call(Call::Commit(0)), Answer::Done);
+        assert_eq!(memory.call(Call::Abort(3)), Answer::Done);
+        assert_eq!(memory.values(), base.values(), "object {number}");
+    }
+}
+
+/// A waiting send to a target or for a method that is not there goes on waiting; put right, it starts at the next end.
+#[test]
+fn waits_for_what_is_not_there() {
+    let words = [layout::KIND_AT, layout::NUMBER_AT, layout::PLACE_AT].map(|word| row_at(3, WAITING.start + word));
+    let kinds = [(3, 1, 1), (9, 0, 0), (9, 1, 1), (u32::MAX, 1, 1)];
+    let objects = [3, 5, 63, 64, 447, 1 << 31, u32::MAX].map(|number| (0, number, 1));
+    let classes = [2, 7, 15, 16, u32::MAX].map(|number| (1, number, 1));
+    let domains = [2, 7, 15, 16, u32::MAX].map(|number| (2, number, 1));
+    let methods = [(0, 1, 4), (0, 0, 2), (1, 1, 31), (1, 1, 32), (1, 1, 33), (2, 0, 2), (0, 1, 1 << 31), (2, 1, u32::MAX)];
+    for (kind, number, place) in kinds.into_iter().chain(objects).chain(classes).chain(domains).chain(methods) {
+        let mut memory = one_waiting();
+        let right = words.map(|word| memory.state()[word]);
+        words.iter().zip([kind, number, place]).for_each(|(&at, word)| memory.put_word(at, word));
+        let row = memory.state()[row_at(3, 0)..row_at(4, 0)].to_vec();
+        assert_eq!(memory.call(Call::Commit(0)), Answer::Done);
+        assert_eq!(in_line(memory.state()), [3], "kind {kind}, number {number}, place {place}");
+        assert_eq!(memory.state()[row_at(3, 0)..row_at(4, 0)], row);
+        assert_eq!(memory.call(Call::Step(3)), Answer::Refused(37));
+        words.iter().zip(right).for_each(|(&at, word)| memory.put_word(at, word));
+        assert_eq!(memory.call(send(1, Target::Object(0), PLOT)), Answer::Done);
+        assert_eq!(memory.call(Call::Abort(1)), Answer::Done);
+        assert_eq!(memory.call(Call::Step(3)), Answer::Going, "kind {kind}, number {number}, place {place}");
+    }
+}
+
+/// A slot that is closed by its phase and stands in line is in nobody's way: 40 names an open slot.
+#[test]
+fn closed_slot_in_line() {
+    let mut memory = Memory::started(b"class a\nfield x\nmethod m\nset x 1\nend\nobject o a\n", &[0]);
+    assert_eq!(memory.call(send(1, Target::Object(0), 0)), Answer::Done);
+    assert_eq!(memory.call(send(0, Target::Object(0), 0)), Answer::Held(1));
+    memory.put_word(row_at(0, layout::PHASE_AT), 0);
+    assert_eq!(memory.call(send(2, Target::Object(0), 0)), Answer::Held(1));
+    assert_eq!(memory.call(Call::Abort(1)), Answer::Done);
+    assert_eq!(in_line(memory.state()), []);
+    assert_eq!(memory.call(Call::Step(2)), Answer::Going);
 }
 
 /// A machine on a generated text after some generated calls.
@@ -476,6 +748,14 @@ fn try_calls(random: &mut Random, library: &Library, memory: &mut Memory) {
     }
 }
 
+/// A word for this place; a count is mostly within its room, since past it every call is 24.
+fn mostly_within(random: &mut Random, place: usize, word: u32) -> u32 {
+    match ROOMS.iter().find(|(count, _)| *count == place) {
+        Some((_, room)) if !random.one_in(20) => word % (room + 1),
+        _ => word,
+    }
+}
+
 /// Some words set to edges or to anything; the words that every call looks at first often stay.
 fn alter(random: &mut Random, memory: &mut Memory) {
     for _ in 0..1 + random.below(40) {
@@ -492,6 +772,7 @@ fn alter(random: &mut Random, memory: &mut Memory) {
             1 => word ^ 1 << random.below(32),
             _ => random.edge(),
         };
+        let new = mostly_within(random, place, new);
         if !(layout::VALUE_COUNT_AT..=layout::START_MARK_AT).contains(&place) || random.one_in(20) {
             memory.put_word(place, new);
         }
@@ -504,6 +785,7 @@ fn rubbish(random: &mut Random, memory: &mut Memory) {
     for place in 0..STATE_WORDS {
         if !(layout::VALUE_COUNT_AT..=layout::START_MARK_AT).contains(&place) {
             let word = (random.next() as u32).checked_shr(narrow).unwrap_or(0);
+            let word = mostly_within(random, place, word);
             memory.put_word(place, word);
         }
     }

@@ -110,6 +110,8 @@ fn refusals() {
     for (text, refused, words) in [
         ("class a\nfield x\nfield x\n", "refused 13 3\n", &["13: a name is repeated", "line 3: field x\n"]),
         ("class a\r\n", "refused 12 1\n", &["12: a line of no allowed form", "line 1: class a?\n"]),
+        ("class a\nclass b\r\n", "refused 12 2\n", &["line 2: class b?\n", "the text: lines end with LF alone, and some here end with CR LF\n"]),
+        ("class\nclass b\r\n", "refused 12 1\n", &["line 1: class\n", "some here end with CR LF\n"]),
         ("class a\nclass b", "refused 12 2\n", &["a last line without LF", "line 2: class b\n"]),
         ("class a\nmethod m\n", "refused 12 3\n", &["a method without end", "line 3: the text has ended\n"]),
         (&long, "refused 11 0\n", &["11: the text has more than 32,768 bytes\n", ""]),
@@ -117,15 +119,51 @@ fn refusals() {
         fs::write(copy.join("samples/faulty"), text).unwrap();
         for (script, input) in [("tables.sh", None), ("rehearse.sh", Some("step 0\n"))] {
             let (printed, said, status) = run(&copy, &[script, "faulty"], input, "");
-            assert_eq!((printed.as_str(), status), (refused, Some(0)), "{script}");
+            assert_eq!((printed.as_str(), status), (refused, Some(1)), "{script}");
             says(&said, words);
+            assert_eq!(said.contains("CR LF"), text.contains("\r\n"), "{script} says: {said}");
         }
     }
     // An object whose line looks like a refusal.
     fs::write(copy.join("samples/good"), "class a\nfield x\nfield y\nobject refused a 13 3\n").unwrap();
-    let (printed, said, _) = run(&copy, &["rehearse.sh", "good"], Some(""), "");
-    assert_eq!(printed, "refused 13 3\n");
+    let (printed, said, status) = run(&copy, &["rehearse.sh", "good"], Some(""), "");
+    assert_eq!((printed.as_str(), status), ("refused 13 3\n", Some(0)));
     assert!(!said.contains("13: "), "{said}");
+}
+
+/// The call lines in a file, by its name from the folder where the script is run; what standard input has is not read then.
+#[test]
+fn call_lines_of_a_file() {
+    let copy = copy("call_lines_of_a_file");
+    let right = rehearsed(SAMPLE.as_bytes(), LEFT.as_bytes());
+    for input in [None, Some("step 0\n")] {
+        let (printed, said, status) = run(&copy, &["rehearse.sh", "lanes.txt", "left-board.calls"], input, "");
+        assert_eq!((&printed, status), (&right, Some(0)));
+        assert!(!said.contains("CR LF") && !said.contains("please"), "{said}");
+    }
+    fs::write(copy.join("samples/other.calls"), "step 0\r\nstep 0\n").unwrap();
+    let (printed, said, status) = run(&copy, &["rehearse.sh", "lanes.txt", "other.calls"], None, "");
+    assert_eq!((printed.as_str(), status), ("51\n32\nlane1 0 0 0\n", Some(0)));
+    says(&said, &["rehearse.sh: other.calls: lines end with LF alone, and some here end with CR LF\n"]);
+    for name in ["nowhere", "../samples"] {
+        let (printed, said, status) = run(&copy, &["rehearse.sh", "lanes.txt", name], Some("step 0\n"), "");
+        assert_eq!((printed.as_str(), status), ("", Some(2)));
+        says(&said, &[&format!("{name} cannot be read")]);
+    }
+}
+
+/// How a script is used: printed where it is asked for, said where there are too many words. Nothing is proved.
+#[test]
+fn help() {
+    let copy = copy("help");
+    for (script, first, most) in [("tables.sh", "Use: ./tables.sh [FILE]\n", 1), ("rehearse.sh", "Use: ./rehearse.sh [LIB [CALLS]]\n", 2)] {
+        let (printed, said, status) = run(&copy, &[script, "--help"], None, "check");
+        assert_eq!((said.as_str(), status), ("", Some(0)));
+        assert!(printed.starts_with(first) && printed.contains("\nEnds with 0; ") && !printed.contains('#'), "{printed}");
+        let words = [&[script][..], &vec!["lanes.txt"; most + 1]].concat();
+        let (nothing, said, status) = run(&copy, &words, None, "check");
+        assert_eq!((nothing.as_str(), said, status), ("", printed, Some(2)));
+    }
 }
 
 #[test]

@@ -18,7 +18,7 @@ returns c =
     let i = l .before .before .before .before .before in
     let e = i .before .before .before .before .before .before in
     let a = e .args in
-    on-lf (lending (a .text .now) (a .state .now) (a .values .now)) (a .line .now) (a .kept) (a .out .now) (a .size) (a .byte) (i .if1 .taken) (e .pre .1) (a .line .now)
+    on-lf (lending (a .text .now) (a .state .now) (a .values .now)) (a .line .now) (a .kept) (a .out .now) (a .size) (a .byte) (i .if1 .taken) (e .pre .1)
     (l .answer-line .ensures)
 
 returns-2 : tie.Need-returns-2

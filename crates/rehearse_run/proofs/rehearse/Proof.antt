@@ -3,6 +3,7 @@ use native.Mathlib.Omega.{arith}
 use mathlib.Core.Path.{sym}
 use lib.Seq.{length-take-le}
 use Rattle.rehearsal.specs.Room.{refused-size, ready-count}
+use Rattle.rehearse_run.specs.Laws.{refused-rehearsed, played-rehearsed}
 use borrow.Author.Needs.{needs}
 use Rattle.rehearse_run.proofs.rehearse.Statement.{statement}
 use Rattle.rehearse_run.proofs.rehearse.Tie as tie
@@ -22,6 +23,19 @@ slice-aggregate-play-2 c =
     let m = c .before .before .before in
     sym (length-take-le _ _ (omega (arith, ready-count (m .before .before .before .before .before .prepare .ensures) _ (m .prepared2 .given .1))))
 
+returns : tie.Need-returns
+returns c =
+    let m = c .before .before .before in
+    let p = m .before .before .before .before .before .prepare .ensures in
+    refused-rehearsed p (m .prepared .given .1) (omega arith) (omega (arith, refused-size p _ (m .prepared .given .1))) (c .print-front .ensures)
+
+returns-2 : tie.Need-returns-2
+returns-2 c =
+    let y = c .before .before .before in
+    let m = y .before .before .before .before .before in
+    let p = m .before .before .before .before .before .prepare .ensures in
+    played-rehearsed p (m .prepared2 .given .1) (y .play .ensures) (omega (arith, y .play .ensures .finishes .few))
+
 pub rehearse-spec : {M : Type 1} → statement M
 rehearse-spec =
     tie.close
@@ -39,5 +53,5 @@ rehearse-spec =
     slice-aggregate-play-2
     (λ c. search needs)
     (λ c κs. search needs)
-    (λ c. search needs)
-    (λ c. search needs))
+    returns
+    returns-2)

@@ -13,7 +13,7 @@ use Rattle.machine_conflicts.proofs.clash.domain_waiter.Tie as tie
 returns : tie.Need-returns
 returns c =
     let a = c .before .before .before .before .args in
-    behind-waits _ (rowMeets (a .text .now) (tablesOf (a .state .now)) (asked (a .wanted))) _ _ _ (c .before .is-ahead .ensures) (not-true _ (c .if1 .taken))
+    behind-waits _ (rowMeets (a .text .now) (tablesOf (a .state .now)) (asked (a .wanted))) _ _ _ (c .before .waits-ahead .ensures) (not-true _ (c .if1 .taken))
 
 returns-2 : tie.Need-returns-2
 returns-2 c =
@@ -21,7 +21,7 @@ returns-2 c =
     let s = i .before .before .before .before in
     let a = s .args in
     c .domain-clashes .ensures ∙ meets-domain _ _ _ _ (s .pre .2)
-    ∙ ahead-waits _ (rowMeets (a .text .now) (tablesOf (a .state .now)) (asked (a .wanted))) _ _ _ (i .before .is-ahead .ensures) (not-false _ (i .if1 .left))
+    ∙ ahead-waits _ (rowMeets (a .text .now) (tablesOf (a .state .now)) (asked (a .wanted))) _ _ _ (i .before .waits-ahead .ensures) (not-false _ (i .if1 .left))
 
 pub domain-waiter-spec : {M : Type 1} → statement M
 domain-waiter-spec =

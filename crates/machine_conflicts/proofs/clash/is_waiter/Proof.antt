@@ -9,13 +9,13 @@ use Rattle.machine_conflicts.proofs.clash.is_waiter.Tie as tie
 returns : tie.Need-returns
 returns c =
     let a = c .before .before .before .args in
-    behind-waits _ (lockTest (a .word) (a .class) (a .methods)) _ _ _ (c .before .is-ahead .ensures) (not-true _ (c .if1 .taken))
+    behind-waits _ (lockTest (a .word) (a .class) (a .methods)) _ _ _ (c .before .waits-ahead .ensures) (not-true _ (c .if1 .taken))
 
 returns-2 : tie.Need-returns-2
 returns-2 c =
     let i = c .before .before in
     let a = i .before .before .before .args in
-    c .holds .ensures ∙ ahead-waits _ (lockTest (a .word) (a .class) (a .methods)) _ _ _ (i .before .is-ahead .ensures) (not-false _ (i .if1 .left))
+    c .holds .ensures ∙ ahead-waits _ (lockTest (a .word) (a .class) (a .methods)) _ _ _ (i .before .waits-ahead .ensures) (not-false _ (i .if1 .left))
 
 pub is-waiter-spec : {M : Type 1} → statement M
 is-waiter-spec =

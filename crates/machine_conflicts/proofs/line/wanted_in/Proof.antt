@@ -1,26 +1,17 @@
--- `wanted_in` meets its contract: six words of the waiting send.
+-- `wanted_in` meets its contract: four words of the waiting send, the class and the name from the tables.
 use borrow.Author.Needs.{needs}
 use Prim.Native.Nat.{_%_}
-use Rattle.machine_words.specs.Line.{wantedIn}
+use Rattle.machine_conflicts.specs.Ahead.{wanted-read}
 use Rattle.machine_conflicts.proofs.line.wanted_in.Statement.{statement}
 use Rattle.machine_conflicts.proofs.line.wanted_in.Tie as tie
 
 returns : tie.Need-returns
-unfolding wantedIn
 returns c =
-    let name = c .before in
-    let place = name .before in
-    let class = place .before in
-    let number = class .before in
-    let kind = number .before in
-    λ i. record {
-      kind = kind .get .ensures i;
-      number = number .get2 .ensures i;
-      class = class .get3 .ensures i;
-      place = place .get4 .ensures i % 32;
-      name = name .get5 .ensures i;
-      argument = c .get6 .ensures i;
-    }
+    let k = c .before in
+    let a = k .before in
+    let p = a .before in
+    let n = p .before in
+    wanted-read _ _ _ _ _ _ _ _ (n .before .get .ensures) (n .get2 .ensures) (p .get3 .ensures) (a .get4 .ensures) (k .class-for .ensures) (c .wanted-of .ensures)
 
 pub wanted-in-spec : {M : Type 1} → statement M
 wanted-in-spec =

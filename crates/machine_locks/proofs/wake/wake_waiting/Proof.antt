@@ -2,7 +2,7 @@
 use borrow.Author.Needs.{needs}
 use mathlib.Core.Path.{refl, ap}
 use Rattle.machine_words.specs.Said.{asked, saidFirst}
-use Rattle.machine_locks.specs.Woken.{leaving-as, still-blocked, wakes-nowhere, wakes-there}
+use Rattle.machine_locks.specs.Woken.{leaving-as, still-blocked, wakes-nowhere, wakes-there, few-places}
 use Rattle.machine_take.proofs.Somewhere.{somewhere}
 use Rattle.machine_locks.proofs.wake.wake_waiting.Statement.{statement}
 use Rattle.machine_locks.proofs.wake.wake_waiting.Tie as tie
@@ -37,6 +37,13 @@ returns-3 c =
     leaving-as (wakes-there (a .text .now) (a .state .now) (a .ahead) (a .slot) (asked (a .wanted)) _ (m .clashing .ensures) (i .if1 .left)
     _ (f .first-object .ensures) (somewhere (f .first-object .result) (k .match .keys2))) (record { waiting-are = refl; words-are = w .start-waiting .ensures })
 
+start-waiting-requires : tie.Need-start-waiting-requires
+start-waiting-requires c κs =
+    let k = c .before in
+    let f = k .before in
+    let s = f .before .before .before .before .before .before .before .before in
+    (s .pre .0, few-places _ _ _ _ (f .first-object .ensures) (somewhere (f .first-object .result) (k .match .keys2)))
+
 pub wake-waiting-spec : {M : Type 1} → statement M
 wake-waiting-spec =
     tie.close
@@ -53,6 +60,6 @@ wake-waiting-spec =
     (λ c κs. search needs)
     (λ c. search needs)
     returns-2
-    (λ c κs. search needs)
+    start-waiting-requires
     (λ c. search needs)
     returns-3)

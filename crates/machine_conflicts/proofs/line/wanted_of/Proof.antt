@@ -1,8 +1,8 @@
 -- `wanted_of` meets its contract: the method's name is the class's word for it.
 use borrow.Author.Needs.{needs}
-use Rattle.machine_locks.specs.Sent.{wanted-by}
-use Rattle.machine_locks.proofs.request.wanted_of.Statement.{statement}
-use Rattle.machine_locks.proofs.request.wanted_of.Tie as tie
+use Rattle.machine_conflicts.specs.Ahead.{wanted-by}
+use Rattle.machine_conflicts.proofs.line.wanted_of.Statement.{statement}
+use Rattle.machine_conflicts.proofs.line.wanted_of.Tie as tie
 
 returns : tie.Need-returns
 returns c = wanted-by _ _ _ _ _ _ _ (c .member-word .ensures)

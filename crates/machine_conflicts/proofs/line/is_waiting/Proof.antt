@@ -1,8 +1,8 @@
 -- `is_waiting` meets its contract: the slot is below 8, and its phase 3.
 use borrow.Author.Needs.{needs}
-use Rattle.machine_locks.specs.Woken.{no-slot, slot-waits}
-use Rattle.machine_locks.proofs.wake.is_waiting.Statement.{statement}
-use Rattle.machine_locks.proofs.wake.is_waiting.Tie as tie
+use Rattle.machine_conflicts.specs.Ahead.{no-slot, slot-waits}
+use Rattle.machine_conflicts.proofs.line.is_waiting.Statement.{statement}
+use Rattle.machine_conflicts.proofs.line.is_waiting.Tie as tie
 
 returns : tie.Need-returns
 returns c = no-slot _ _ (c .if1 .taken)
