@@ -1,5 +1,6 @@
 // Prints for each text that its arguments name: its name and its verdict (the number of the fault and its line, 0 0 for an
 // accepted text), what `tables` prints, and the bytes of its image. The texts and these answers are the test vectors'.
+#![tactic(auto)]
 use libc::STDOUT_FILENO;
 
 // Writes a space and a number.

@@ -1,1 +1,2 @@
 // 01's examples and ours, run on the model's definitions, in specs/; there is no code.
+#![tactic(auto)]

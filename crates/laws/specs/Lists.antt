@@ -100,8 +100,11 @@ module _ {A : Type 0} where
 
   pub any_none : (p : A → Bool) {xs : List A} {x : A} → Memᴰ x xs → any p xs ≡ false → p x ≡ false
   unfolding any
-  any_none p (Memᴰ.head {x = y} {xs = ys} e) q = ap p e ∙ neither_left (p y) (any p ys) q
-  any_none p (Memᴰ.tail {x = y} {xs = ys} m) q = any_none p m (neither_right (p y) (any p ys) q)
+  any_none p {x = x} m q = go m q
+    where
+      go : {ys : List A} → Memᴰ x ys → any p ys ≡ false → p x ≡ false
+      go (Memᴰ.head {x = y} {xs = ys} e) q = ap p e ∙ neither_left (p y) (any p ys) q
+      go (Memᴰ.tail {x = y} {xs = ys} m) q = go m (neither_right (p y) (any p ys) q)
 
   pub none_any : (p : A → Bool) (xs : List A) → ((x : A) → Memᴰ x xs → p x ≡ false) → any p xs ≡ false
   unfolding any
@@ -118,8 +121,11 @@ module _ {A : Type 0} where
   -- Each member passes where `every` does.
   pub every_member : (p : A → Bool) {xs : List A} {x : A} → Memᴰ x xs → every p xs ≡ true → p x ≡ true
   unfolding every
-  every_member p (Memᴰ.head {x = y} {xs = ys} e) q = ap p e ∙ both_left (p y) (every p ys) q
-  every_member p (Memᴰ.tail {x = y} {xs = ys} m) q = every_member p m (both_right (p y) (every p ys) q)
+  every_member p {x = x} m q = go m q
+    where
+      go : {ys : List A} → Memᴰ x ys → every p ys ≡ true → p x ≡ true
+      go (Memᴰ.head {x = y} {xs = ys} e) q = ap p e ∙ both_left (p y) (every p ys) q
+      go (Memᴰ.tail {x = y} {xs = ys} m) q = go m (both_right (p y) (every p ys) q)
 
   -- `keep` has exactly the members that pass.
   pub in_keep : (p : A → Bool) (xs : List A) {x : A} → Memᴰ x (keep p xs) → Memᴰ x xs × (p x ≡ true)
@@ -306,8 +312,11 @@ module _ {A : Type 0} where
 module _ {A B : Type 0} where
   -- The members of `map` and `flat_map` are the images of the members.
   pub map_in : (f : A → B) {xs : List A} {x : A} → Memᴰ x xs → Memᴰ (f x) (map f xs)
-  map_in f (Memᴰ.head e) = Memᴰ.head (ap f e)
-  map_in f (Memᴰ.tail m) = Memᴰ.tail (map_in f m)
+  map_in f {x = x} m = go m
+    where
+      go : {ys : List A} → Memᴰ x ys → Memᴰ (f x) (map f ys)
+      go (Memᴰ.head e) = Memᴰ.head (ap f e)
+      go (Memᴰ.tail m) = Memᴰ.tail (go m)
 
   pub in_map : (f : A → B) (xs : List A) {y : B} → Memᴰ y (map f xs) → (x : A) × Memᴰ x xs × (y ≡ f x)
   in_map f [] m = absurd (Memᴰ.not-nil m)
@@ -325,8 +334,11 @@ module _ {A B : Type 0} where
 
   pub flat_map_in : (f : A → List B) {xs : List A} {x : A} {y : B} → Memᴰ x xs → Memᴰ y (f x) → Memᴰ y (flat_map f xs)
   unfolding flat_map
-  flat_map_in f {y = y} (Memᴰ.head {xs = zs} e) n = Memᴰ.append_left (flat_map f zs) (subst (λ w. Memᴰ y (f w)) e n)
-  flat_map_in f (Memᴰ.tail {x = z} m) n = Memᴰ.append_right (f z) (flat_map_in f m n)
+  flat_map_in f {x = x} {y = y} m n = go m
+    where
+      go : {zs : List A} → Memᴰ x zs → Memᴰ y (flat_map f zs)
+      go (Memᴰ.head {xs = zs} e) = Memᴰ.append_left (flat_map f zs) (subst (λ w. Memᴰ y (f w)) e n)
+      go (Memᴰ.tail {x = z} m) = Memᴰ.append_right (f z) (go m)
 
   pub in_flat_map : (f : A → List B) (xs : List A) {y : B} → Memᴰ y (flat_map f xs) → (x : A) × Memᴰ x xs × Memᴰ y (f x)
   unfolding flat_map

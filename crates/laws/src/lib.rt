@@ -1,1 +1,2 @@
 // Laws of the model's foundations: lists, look-ups, modes, bits, values put back. There is no code; the laws are in specs/.
+#![tactic(auto)]

@@ -1,1 +1,2 @@
 // The model: definitions only, in specs/.
+#![tactic(auto)]

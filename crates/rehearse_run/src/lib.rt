@@ -1,6 +1,7 @@
 // The program `rehearse` (02, Ticket 2), as a library: reads the class text `lib.txt` and the call lines on standard input, and
 // writes their answers to standard output. Each part of the input is answered before more is waited for. No contract speaks of
 // files: of whatever was read, each byte is answered once and in order, and as much is written out as its answers have.
+#![tactic(auto)]
 ghost use Rattle.std.specs.Prelude.{◌*◌, ◌≤◌, ◌≡◌, length};
 ghost use Rattle.io.specs.Counts.{IsPrefixLen};
 ghost use Rattle.machine_words.specs.Calls.{lending};

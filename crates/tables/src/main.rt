@@ -1,4 +1,5 @@
 // Prints the access vectors and commuting methods of the class text on standard input (01, "What `tables` prints").
+#![tactic(auto)]
 use libc::{STDIN_FILENO, STDOUT_FILENO};
 
 // Writes out the first bytes of the lines.
