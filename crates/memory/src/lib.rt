@@ -1,5 +1,6 @@
 // A word of lent memory, by its place.
 #![tactic(auto)]
+
 ghost use Rattle.std.specs.Prelude.{◌≡◌, get_or, set};
 
 // The word at a place; 0 past the end.

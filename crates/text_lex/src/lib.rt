@@ -1,6 +1,7 @@
 // Words, names and numbers of a class text (01, "The class text", first paragraph): where a piece of a text ends, whether two
 // pieces are equal, and whether a word is a name or a number.
 #![tactic(auto)]
+
 ghost use Rattle.std.specs.Prelude.{◌≡◌, ◌+◌, drop};
 ghost use Rattle.model.specs.Base.{same, every};
 ghost use Rattle.model.specs.Word.{is_letter, is_digit, is_name_byte, is_reserved, is_name, is_number, begins_with_letter, well_begun};

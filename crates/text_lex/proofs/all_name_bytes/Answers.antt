@@ -1,0 +1,20 @@
+-- `text_lex::all_name_bytes` meets its contract: at each turn the bytes left may all stand in a name iff all from `from` on may.
+use mathlib.Core.Path.{sym, ◌∙◌}
+use native.Mathlib.Omega.{arith}
+use Rattle.model.specs.Word.{is_name_byte}
+use Rattle.text_lex.proofs.ListLaws.{every_end, every_stop, every_more}
+use Rattle.text_lex.proofs.all_name_bytes.Goals as goal
+
+pub returns-then-not-is_name_byte : goal.returns-then-not-is_name_byte
+returns-then-not-is_name_byte c =
+    let e = sym c.is_name_byte.ensures ∙ c.if-not-is_name_byte.true in
+    sym (every_stop is_name_byte c.args.word.now c.loop-i.i (omega arith) e) ∙ c.loop-i.invariant
+
+pub loop-i-preserved : goal.loop-i-preserved
+loop-i-preserved c =
+    let e = sym c.is_name_byte.ensures ∙ c.if-not-is_name_byte.false in
+    sym (every_more is_name_byte c.args.word.now c.loop-i.i (omega arith) e) ∙ c.loop-i.invariant
+
+pub returns : goal.returns
+returns c =
+    sym (every_end is_name_byte c.args.word.now c.loop-i.i (omega arith)) ∙ c.loop-i.invariant
