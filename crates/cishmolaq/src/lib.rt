@@ -20,7 +20,7 @@ use machine_words::{Outcome, Target};
 use reader::Verdict;
 
 // Done, with a length where one is asked for; or refused with a number and a line, 0 where the number has no line.
-#[derive(Drop)]
+#[derive(Clone, Copy)]
 pub enum Answer {
     Done(usize),
     Refused(u32, usize),
@@ -62,7 +62,7 @@ pub fn compile(text: &[u8], image: &mut [u8]) -> Answer
 }
 
 // The place of a statement in the text, and its size in bytes; both 0 where there is none.
-#[derive(Drop)]
+#[derive(Clone, Copy)]
 pub struct Place {
     pub at: usize,
     pub size: usize,

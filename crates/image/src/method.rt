@@ -9,7 +9,7 @@ ghost use Rattle.image.specs.Cells.{cell_from, methods_from, name_from, vector_f
 use output::{put_byte, put_bytes, put_pair, put_u32};
 
 // The part of a method that is written.
-#[derive(Drop)]
+#[derive(Clone, Copy)]
 pub enum Part {
     Masks,
     Commuting,

@@ -10,7 +10,7 @@ ghost use Rattle.machine_apply.specs.Carried.{Leaves};
 use machine_words::{Change, Turn};
 
 // What a step answers.
-#[derive(Drop)]
+#[derive(Clone, Copy)]
 pub enum Said {
     Unfit,
     Going,

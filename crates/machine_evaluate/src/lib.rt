@@ -17,7 +17,7 @@ const SIGN: u32 = 2147483648;
 
 // The value of an expression and the place after it; Nothing where there is no expression, or where it names a field that the
 // class does not have.
-#[derive(Drop)]
+#[derive(Clone, Copy)]
 pub enum Value {
     Found(u32, usize),
     Nothing,

@@ -22,7 +22,7 @@ const LEVELS: usize = 9;
 
 // What a statement runs in: the class of its object, the place of the object's first value, how many activations there
 // are, and the latest one's arg and got.
-#[derive(Drop)]
+#[derive(Clone, Copy)]
 pub struct Frame {
     pub class: u32,
     pub base: u32,

@@ -5,14 +5,14 @@ ghost use Rattle.std.specs.Prelude.{◌≡◌};
 ghost use Rattle.machine_words.specs.Row.{act, top, with_act, new_act, object_row};
 
 // How a value is changed: replaced by another, or increased by it.
-#[derive(Drop)]
+#[derive(Clone, Copy)]
 pub enum Change {
     Replace,
     Increase,
 }
 
 // The next step of a running message: see `Turn` in specs/Row.antt.
-#[derive(Drop)]
+#[derive(Clone, Copy)]
 pub enum Turn {
     Misfit,
     Stop,
@@ -26,7 +26,7 @@ pub enum Turn {
 }
 
 // The target of a send, by number: an object, a class's own objects, or a class's domain.
-#[derive(Drop)]
+#[derive(Clone, Copy)]
 pub enum Target {
     Object(u32),
     Class(u32),
@@ -34,7 +34,7 @@ pub enum Target {
 }
 
 // A send, as the lock rules see it: see `Wanted` in specs/Request.antt.
-#[derive(Drop)]
+#[derive(Clone, Copy)]
 pub struct Wanted {
     pub kind: u32,
     pub number: u32,
@@ -46,7 +46,7 @@ pub struct Wanted {
 
 // Where a message starts: on an object, with its method's first statement there and the one past its last; past the last
 // object; or nowhere, where its first object has no such method.
-#[derive(Drop)]
+#[derive(Clone, Copy)]
 pub enum First {
     On(u32, u32, u32),
     Past(u32),
@@ -55,7 +55,7 @@ pub enum First {
 
 // What a call answers: done (a send: granted), going or the message's answer; a number 21 to 37, or 42; 40 with the
 // lowest clashing slot; 41.
-#[derive(Drop)]
+#[derive(Clone, Copy)]
 pub enum Outcome {
     Done,
     Going,

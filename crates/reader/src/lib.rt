@@ -17,7 +17,7 @@ use text_syntax::form::Kind;
 const MAX_TEXT: usize = 32768;
 
 // A text is accepted, or refused with a number and a line.
-#[derive(Drop)]
+#[derive(Clone, Copy)]
 pub enum Verdict {
     Accepted,
     Refused(u32, usize),

@@ -18,21 +18,21 @@ const LINE_FEED: u8 = 10;
 pub const WIDEST: usize = 18;
 
 // The start of a rehearsal: of a refused text, the bytes written of the line that says so; else the text's number of values.
-#[derive(Drop)]
+#[derive(Clone, Copy)]
 pub enum Prepared {
     Refused(usize),
     Ready(usize),
 }
 
 // How far a part is read: the bytes kept of the unfinished line, and the bytes written.
-#[derive(Drop)]
+#[derive(Clone, Copy)]
 struct Reach {
     kept: usize,
     size: usize,
 }
 
 // The bytes of the part that were read, those kept of the unfinished line, and those written.
-#[derive(Drop)]
+#[derive(Clone, Copy)]
 pub struct Fed {
     pub read: usize,
     pub kept: usize,

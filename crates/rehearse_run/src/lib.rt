@@ -21,7 +21,7 @@ const ROOM: usize = 4096 * rehearsal::WIDEST;
 const LINE: usize = 128;
 
 // The bytes of a part that were read, those kept of the unfinished line, and those written out.
-#[derive(Drop)]
+#[derive(Clone, Copy)]
 struct Turn {
     read: usize,
     kept: usize,

@@ -8,7 +8,7 @@ ghost use Rattle.text_syntax.specs.Reading.{placed};
 use super::token::{Token, token_of};
 
 // The place after an expression, which is the end of its last word; Nowhere where there is no expression.
-#[derive(Drop)]
+#[derive(Clone, Copy)]
 pub enum Behind {
     Rest(usize),
     Nowhere,

@@ -22,7 +22,7 @@ const NAMES: bool = false;
 const NUMBERS: bool = true;
 
 // The kind of a line, by its form.
-#[derive(Drop)]
+#[derive(Clone, Copy)]
 pub enum Kind {
     Class,
     Field,

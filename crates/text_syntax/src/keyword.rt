@@ -4,7 +4,7 @@ ghost use Rattle.model.specs.Form.{keyword_of};
 ghost use Rattle.text_syntax.specs.Keywords.{said_keyword};
 
 // The ten words that begin a line, and Other for any other word.
-#[derive(Drop)]
+#[derive(Clone, Copy)]
 pub enum Keyword {
     Class,
     Field,

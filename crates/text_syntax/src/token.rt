@@ -4,7 +4,7 @@ ghost use Rattle.model.specs.Expression.{neither, token_of};
 ghost use Rattle.text_syntax.specs.Tokens.{said_token, literal, named_or};
 
 // `+ - * < =`
-#[derive(Drop)]
+#[derive(Clone, Copy)]
 pub enum Operator {
     Plus,
     Minus,
@@ -14,7 +14,7 @@ pub enum Operator {
 }
 
 // An expression of one word: a number, a field by its name, `arg` or `got`.
-#[derive(Drop)]
+#[derive(Clone, Copy)]
 pub enum Leaf {
     Literal(u32),
     Field,
@@ -23,7 +23,7 @@ pub enum Leaf {
 }
 
 // A word of an expression; Neither where it is none.
-#[derive(Drop)]
+#[derive(Clone, Copy)]
 pub enum Token {
     Sign(Operator),
     Single(Leaf),

@@ -11,7 +11,7 @@ ghost use Rattle.vector_compiler.specs.Nodes.{body_of_node};
 use vector_direct::Vector;
 
 // A run of the text's statements.
-#[derive(Drop)]
+#[derive(Clone, Copy)]
 pub struct Body {
     pub first: u32,
     pub size: u32,

@@ -7,7 +7,7 @@ ghost use Rattle.vector_compiler.specs.Memo.{Right, row_at, with_row, Bodies, Ca
 use super::body::{body_of, body_vector, line_of};
 
 // What a method does by itself: the run of its statements, and the fields of the class that they depend on and change.
-#[derive(Drop)]
+#[derive(Clone, Copy)]
 pub struct Direct {
     pub first: u32,
     pub size: u32,

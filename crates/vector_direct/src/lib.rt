@@ -23,7 +23,7 @@ const NONE: u32 = 512;
 const POINT: u8 = 46;
 
 // The fields that a run depends on, and those that it changes: bit k is field k.
-#[derive(Drop)]
+#[derive(Clone, Copy)]
 pub struct Vector {
     pub depends: u32,
     pub changes: u32,
