@@ -1,6 +1,7 @@
 // The catalog: the tables of classes and objects, in the words that the caller lends, and the look-ups in them. The layout of the
 // words is in specs/View.antt.
 #![tactic(auto)]
+
 pub mod body;
 
 ghost use Rattle.std.specs.Prelude.{◌+◌, ◌*◌, ◌≤◌, ◌<◌, min, ◌≡◌, set, take, drop};
