@@ -1,5 +1,6 @@
 // Writes bytes into a lent list from a place on. Each function answers the place after what it wrote.
 #![tactic(auto)]
+
 ghost use Rattle.std.specs.Prelude.{◌+◌, ◌<◌, ◌^◌, [], ◌∷◌, ◌++◌, length};
 ghost use Rattle.model.specs.Image.{u32_bytes};
 ghost use Rattle.model.specs.Tables.{digits, refusal_printed};

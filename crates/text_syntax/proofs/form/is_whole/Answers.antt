@@ -1,0 +1,9 @@
+-- `is_whole` meets its contract: an expression is whole iff it ends where the line does.
+use mathlib.Core.Path.{sym, ◌∙◌}
+use Rattle.text_syntax.proofs.FormLaws.{whole_at}
+use Rattle.text_syntax.proofs.form.is_whole.Goals as goal
+
+pub returns-in-Rest : goal.returns-in-Rest
+returns-in-Rest c =
+    let a = c.args in
+    whole_at a.line.now a.at _ (sym c.in-Rest.is ∙ c.expression_end_after-behind.ensures)
