@@ -8,7 +8,6 @@ use Rattle.std.proofs.Math.Option.{Option, none, some}
 use Rattle.std.proofs.lemmas.List.{length-map}
 use Rattle.std.proofs.lemmas.Bool.{not-true}
 use Rattle.model.specs.Word.{Name}
-use Rattle.model.specs.Expression.{argument}
 use Rattle.model.specs.Form.{Action, assign, send, send_prefixed, reply, Statement}
 use Rattle.model.specs.Library.{Member, Class, Library, Resolution, among, member, member_place, class_number, is_class, class_name, class_at, statements_of, body_of, method_names}
 use Rattle.model.specs.Fault.{strange, strange_guard}

@@ -11,7 +11,7 @@ use Rattle.model.specs.Undo.{Note, sum_added, old_value, Undo, renoted, noted, r
 use Rattle.laws.specs.PutBack.{back_same}
 use Rattle.laws.specs.Sums.{nothing_back, added_back, addition_stays}
 use Rattle.laws.specs.Basics.{put_same, put_other}
-use Rattle.theory.specs.Footprint.{Changes, May, Agree, Free, Beside, Aside}
+use Rattle.theory.specs.Footprint.{May, Agree, Free, Beside, Aside}
 use Rattle.theory.specs.Locality.{alter, both_add}
 
 -- ---- at one place

@@ -63,7 +63,7 @@ module _ (𝓢 : Service) (𝓛 : Laws 𝓢) where
     pub blocks_open : (v : Waiter 𝓢) (k : ℕ) → Blocks 𝓢 w.slots w.line v k → w.slots k ≡ closed → ⊥
     blocks_open v k (holder ne c) q = false≢true (sym (clash_none v.message) ∙ sym (ap (λ z. clash v.message (held_by 𝓢 z)) q) ∙ c)
     blocks_open v k (ahead ne u b e m) q =
-        let r = g.each u (before_in b).0 in open_closed 𝓢 r.transaction (sym r.is_open_law ∙ ap w.slots e ∙ q)
+        let r = g.each u (before_in b).0 in open_closed 𝓢 r.transaction (sym r.is_open ∙ ap w.slots e ∙ q)
 
     waits_below : (s t : ℕ) → waits_for 𝓢 w s t ≡ true → t < 8
     waits_below s t e = go (dec_lt t 8)
@@ -161,7 +161,7 @@ module _ (𝓢 : Service) (𝓛 : Laws 𝓢) where
       go m f.waiter f.blocks
     where
       away : (v : Waiter 𝓢) → Memᴰ v w.line → v.slot ≡ s → ⊥
-      away v i h = let r = g.each v i in open_closed 𝓢 r.transaction (sym r.is_open_law ∙ ap w.slots h ∙ shut)
+      away v i h = let r = g.each v i in open_closed 𝓢 r.transaction (sym r.is_open ∙ ap w.slots h ∙ shut)
 
       nobody : (m : Message) (u v : Waiter 𝓢) → u.slot ≡ s
           → Before u v w.line ⊎ ((Memᴰ u w.line × Memᴰ v (record { slot = s; message = m } ∷ [])) ⊎ Before u v (record { slot = s; message = m } ∷ []))

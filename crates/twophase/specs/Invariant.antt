@@ -13,7 +13,7 @@ use Rattle.twophase.specs.Effects.{acts, over, Swap, Apart, pull, push}
 
 module _ (𝓢 : Service) (𝓛 : Laws 𝓢) where
   open 𝓢 use {Fields, Message, Run, Effect, Undo, turn, act, put_back, clash, meets, holds, alone}
-  open 𝓛 use {Ok, Of, May, Agree, Aside, Agree-refl, agree_sym, Agree-trans, agree_act, turn_local, ok_act, meets_sym, clash_none, holds_meets, free_commute, free_agree, aside_back, aside_clean, back_clean}
+  open 𝓛 use {Ok, Of, May, Agree, Aside, agree_refl, agree_sym, agree_trans, agree_act, turn_local, ok_act, meets_sym, clash_none, holds_meets, free_commute, free_agree, aside_back, aside_clean, back_clean}
 
   -- ---- the invariant
 
@@ -128,16 +128,16 @@ module _ (𝓢 : Service) (𝓛 : Laws 𝓢) where
 
   -- A message does not see the effects of messages that do not clash with it.
   pub agree_made : (m : Message) (ms : List Message) → All (Free 𝓢 m) ms → (d : List Effect) → Made ms d → (F : Fields) → Agree m F (acts act d F)
-  agree_made m ms free [] made F = Agree-refl m F
+  agree_made m ms free [] made F = agree_refl m F
   agree_made m ms free (e ∷ d) made F =
       let (m', i, may) = made.0 in
-      Agree-trans m F (acts act d F) _ (agree_made m ms free d made.1 F) (free_agree m m' e (acts act d F) (all_at (Free 𝓢 m) ms m' i free) may)
+      agree_trans m F (acts act d F) _ (agree_made m ms free d made.1 F) (free_agree m m' e (acts act d F) (all_at (Free 𝓢 m) ms m' i free) may)
 
   -- It does not see those of all slots together.
   agree_over : (n : ℕ) (m : Message) (effects : ℕ → List Effect) → ((k : ℕ) (F : Fields) → Agree m F (acts act (effects k) F))
       → (F : Fields) → Agree m F (over act n effects F)
-  agree_over zero m effects each F = Agree-refl m F
-  agree_over (suc n) m effects each F = Agree-trans m F (over act n effects F) _ (agree_over n m effects each F) (each n _)
+  agree_over zero m effects each F = agree_refl m F
+  agree_over (suc n) m effects each F = agree_trans m F (over act n effects F) _ (agree_over n m effects each F) (each n _)
 
   -- A transaction's effects preserve fields that can occur.
   pub ok_acts : (ms : List Message) (d : List Effect) → Made ms d → (F : Fields) → Ok F → Ok (acts act d F)
@@ -165,7 +165,7 @@ module _ (𝓢 : Service) (𝓛 : Laws 𝓢) where
     where
       tell : (Q : Fields) → AllAgree ms P' Q → AllAgree ms P Q
       tell Q a =
-          all_of (λ m. Agree m P Q) ms (λ m i. Agree-trans m P P' Q (all_at (λ m. Agree m P P') ms m i alike) (all_at (λ m. Agree m P' Q) ms m i a))
+          all_of (λ m. Agree m P Q) ms (λ m i. agree_trans m P P' Q (all_at (λ m. Agree m P P') ms m i alike) (all_at (λ m. Agree m P' Q) ms m i a))
 
       active : (r : Option Run) → Activity P ms d s r → Activity P' ms d s r
       active none v = record { same = λ Q a. v.same Q (tell Q a) }
@@ -200,7 +200,7 @@ module _ (𝓢 : Service) (𝓛 : Laws 𝓢) where
 
     -- Fields agree with themselves for every message.
     pub agree_self : (t : ℕ) → AllAgree (messages t) x.fields x.fields
-    agree_self t = all_of (λ m. Agree m x.fields x.fields) (messages t) (λ m i. Agree-refl m x.fields)
+    agree_self t = all_of (λ m. Agree m x.fields x.fields) (messages t) (λ m i. agree_refl m x.fields)
 
     module _ (t : ℕ) where
       -- The effects of the other slots, none for this one.
@@ -273,7 +273,7 @@ module _ (𝓢 : Service) (𝓛 : Laws 𝓢) where
             (agree_acts m (effects t) _ _ (agree_sym m _ _ (agree_over 8 m others each x.fields)))
           where
             each : (k : ℕ) (F : Fields) → Agree m F (acts act (others k) F)
-            each = put_cases (λ k d. (F : Fields) → Agree m F (acts act d F)) effects t [] (λ F. Agree-refl m F)
+            each = put_cases (λ k d. (F : Fields) → Agree m F (acts act d F)) effects t [] (λ F. agree_refl m F)
                 (λ k ne. agree_made m (messages k) (free_from m i k (λ e. ne (sym e))) (effects k) (made k))
 
         -- Its next step is the one that it would take if its transaction ran alone on such fields.
@@ -281,7 +281,7 @@ module _ (𝓢 : Service) (𝓛 : Laws 𝓢) where
             → turn r (acts act (effects t) Q) ≡ turn r w.fields
         same_turn m r i of Q a =
             turn_local m r _ _ of
-            (Agree-trans m _ _ _ (agree_acts m (effects t) _ _ (agree_sym m _ _ (all_at (λ m. Agree m x.fields Q) (messages t) m i a)))
+            (agree_trans m _ _ _ (agree_acts m (effects t) _ _ (agree_sym m _ _ (all_at (λ m. Agree m x.fields Q) (messages t) m i a)))
             (agree_sym m _ _ (view m i)))
 
     -- A message all of whose locks a slot holds clashes with no lock of another slot.

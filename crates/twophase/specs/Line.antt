@@ -108,6 +108,7 @@ module _ (𝓢 : Service) where
       rest_test : (front rest : List (Waiter 𝓢))
           → ((more : List (Waiter 𝓢)) → ((u : Waiter 𝓢) → Memᴰ u front → Memᴰ u more) → in_the_way 𝓢 slots more s v.message t ≡ true)
           → Memᴰ v rest → waits_in 𝓢 slots front rest s t ≡ true
+      rest_test front [] passes i = elim i [ ]
       rest_test front (y ∷ ys) passes (Memᴰ.head e) = either_left (eqb y.slot s && in_the_way 𝓢 slots front s y.message t) _
           (subst (λ z. (eqb z.slot s && in_the_way 𝓢 slots front s z.message t) ≡ true) e
           (both_true (eqb v.slot s) _ (eq-eqb v.slot s its) (passes front (λ u i. i))))
@@ -116,6 +117,7 @@ module _ (𝓢 : Service) where
 
       rest_ahead : (u : Waiter 𝓢) → u.slot ≡ t → (t ≡ s → ⊥) → meets v.message u.message ≡ true → (front rest : List (Waiter 𝓢))
           → Before u v rest → waits_in 𝓢 slots front rest s t ≡ true
+      rest_ahead u e ne m front [] i = elim i [ ]
       rest_ahead u e ne m front (y ∷ ys) (first q i) = either_right (eqb y.slot s && in_the_way 𝓢 slots front s y.message t) _
           (rest_test (front ++ (y ∷ [])) ys (λ more h. subst (λ (k : ℕ). in_the_way 𝓢 slots more s v.message k ≡ true) e
           (way_send slots more s v.message u (h u (Memᴰ.append_right front (Memᴰ.head q))) (λ k. ne (sym e ∙ k)) m)) i)
@@ -160,6 +162,7 @@ module _ (𝓢 : Service) where
       last u (inr i) q = away x (Memᴰ.head refl) (sym q ∙ ap (λ z. z.slot) (Memᴰ.eq_of_singleton i))
 
   pub once_same : (xs : List (Waiter 𝓢)) → Once xs → (u v : Waiter 𝓢) → Memᴰ u xs → Memᴰ v xs → u.slot ≡ v.slot → u ≡ v
+  once_same [] h u v i _ q = elim i [ ]
   once_same (x ∷ xs) h u v (Memᴰ.head e) (Memᴰ.head f) q = e ∙ sym f
   once_same (x ∷ xs) h u v (Memᴰ.head e) (Memᴰ.tail j) q = absurd (h.0 v j (sym q ∙ ap (λ z. z.slot) e))
   once_same (x ∷ xs) h u v (Memᴰ.tail i) (Memᴰ.head f) q = absurd (h.0 u i (q ∙ ap (λ z. z.slot) f))

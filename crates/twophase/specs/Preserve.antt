@@ -75,7 +75,8 @@ module _ (𝓢 : Service) (𝓛 : Laws 𝓢) (w : World 𝓢) (x : Course 𝓢) 
         messages = grown;
         effects = effects;
         free = put_cases (λ k ms. (s : ℕ) → (k ≡ s → ⊥) → AllFree 𝓢 𝓛 ms (grown s)) messages t (m ∷ messages t)
-            (λ s ne. rw (put_other messages t (m ∷ messages t) s (λ e. ne (sym e))) (clear_of s (λ e. ne (sym e)), free t s ne))
+            (λ s ne. subst (AllFree 𝓢 𝓛 (m ∷ messages t)) (sym (put_other messages t (m ∷ messages t) s (λ e. ne (sym e))))
+            (clear_of s (λ e. ne (sym e)), free t s ne))
             (λ k nt. put_cases (λ s ms. (k ≡ s → ⊥) → AllFree 𝓢 𝓛 (messages k) ms) messages t (m ∷ messages t)
             (λ ne. all_free_sym 𝓢 𝓛 (m ∷ messages t) (messages k) (clear_of k nt, free t k (λ e. nt (sym e))))
             (λ s ns ne. free k s ne));
