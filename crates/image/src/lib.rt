@@ -1,6 +1,7 @@
 // Writes the image, the starting values and the lines of `tables` from the tables into lists that the caller lends. A lent list
 // keeps what lies past the part that is written, and what it has no room for is left out.
 #![tactic(auto)]
+
 mod method;
 mod value;
 

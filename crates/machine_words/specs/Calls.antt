@@ -1,8 +1,8 @@
 -- The four calls over the lent text, words and values. The words are laid out as in crates/layout/specs/Layout.antt; those past the
 -- state are not the machine's.
-use Rattle.std.specs.Prelude.{ℕ, suc, ◌+◌, ◌%◌, ◌≡◌, Bool, true, false, not, cond, ◌&&◌, List, length, get_or, set, eqb, leb, ltb}
+use Rattle.std.specs.Prelude.{ℕ, suc, ◌≡◌, Bool, true, false, not, cond, ◌&&◌, List, length, get_or, set, eqb, leb, ltb}
 use Rattle.std.proofs.Math.Option.{Option, none, some}
-use Rattle.layout.specs.Layout.{values_most, value_count_at, text_length_at, start_mark_at, object_class_at, line_at, state_words, start_mark, origin_unit, closed_phase, idle_phase, running_phase, waiting_phase, method_kind, object_kind, class_kind, domain_kind, classes_most, statements_most, objects_most, slots_most, class_count_at, statement_count_at, object_count_at}
+use Rattle.layout.specs.Layout.{values_most, value_count_at, text_length_at, start_mark_at, object_class_at, line_at, state_words, start_mark, closed_phase, idle_phase, running_phase, waiting_phase, method_kind, object_kind, class_kind, domain_kind, classes_most, statements_most, objects_most, slots_most, class_count_at, statement_count_at, object_count_at}
 use Rattle.model.specs.Undo.{put_back}
 use Rattle.model.specs.Service.{Call, send, step, commit, abort, Answer, done, going, answer, refuse, held, stopped}
 use Rattle.model.specs.Machine.{object, class, domain, Request, to}

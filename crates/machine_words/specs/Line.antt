@@ -1,6 +1,6 @@
 -- The line over the words (02, Tickets 7 and 8): a waiting send in its slot's row, the places of the line, circles of waits, and the
 -- waking of those who wait.
-use Rattle.std.specs.Prelude.{ℕ, zero, suc, ◌+◌, ◌*◌, Bool, false, not, cond, ◌&&◌, ◌||◌, List, get_or, set, take, drop, replicate, eqb, leb, ltb}
+use Rattle.std.specs.Prelude.{ℕ, zero, suc, ◌+◌, ◌*◌, Bool, false, not, cond, ◌&&◌, ◌||◌, List, get_or, set, take, drop, replicate, eqb, ltb}
 use Rattle.std.proofs.Math.Option.{Option, none, some}
 use Rattle.std.proofs.lemmas.List.Edits.{sets}
 use Rattle.layout.specs.Layout.{table_words, phase_at, kind_at, number_at, argument_at, place_at, waiting_at, waiting_words, row_words, line_at, first_in_line_at, closed_phase, idle_phase, waiting_phase}

@@ -1,6 +1,7 @@
 // The types of a send, a turn and an answer; a row's activations, and putting a message on an object. What the words of the state mean
 // is in specs/, and specs/Said.antt has what each type stands for there.
 #![tactic(auto)]
+
 ghost use Rattle.std.specs.Prelude.{◌≡◌};
 ghost use Rattle.machine_words.specs.Row.{act, top, with_act, new_act, object_row};
 

@@ -1,6 +1,7 @@
 // The faults 13 to 15 of the names in a class line (01, "Numbers given"): the class's own name and its parents', listed with a
 // space before each.
 #![tactic(auto)]
+
 ghost use Rattle.std.specs.Prelude.{◌≡◌, length, drop};
 ghost use Rattle.model.specs.Base.{same, any, some_pair};
 ghost use Rattle.model.specs.Library.{class_at};

@@ -1,6 +1,7 @@
 // What one line of a text does to fields and calls (01, "Vectors and commuting"): the masks of the fields that its statement
 // depends on and of those that it changes, and the number of the method that it calls on its own object.
 #![tactic(auto)]
+
 ghost use Rattle.std.specs.Prelude.{◌*◌, ◌%◌, ◌^◌, ◌≡◌, ◌&&◌, map, drop};
 ghost use Rattle.std.specs.Int.Bits.{bit_or};
 ghost use Rattle.model.specs.Base.{same, digit};
