@@ -1,6 +1,6 @@
 -- The examples: one table, each row an input and the expected result, and one theorem, that no row fails. The starred examples of
 -- document 01 come first, then edges of its rules. Its examples without a star are run by the tests of `host/`.
-use Rattle.std.specs.Prelude.{ℕ, ◌≡◌, refl, Bool, true, false, ◌&&◌, length, take, replicate, eqb}
+use Rattle.std.specs.Prelude.{ℕ, Bool, true, false, ◌&&◌, length, take, replicate, eqb}
 use Prim.Native.String.{String}
 use Rattle.std.proofs.Math.Option.{Option, none, some}
 use mathlib.Core.List.{List, [], ◌∷◌, ◌++◌, map, flat_map}
@@ -110,7 +110,7 @@ passes (rehearses t cs s) = same (rehearsed t cs) s
 -- ---- the rows
 
 -- lane1 is object 0, of class 1; its methods are shot 0, plot 1, tune 2.
-abbrev starred : List Row
+abbrev pub starred : List Row
 starred =
     prints lanes (text ("run shot WN ny" ∷ "run plot NR yy" ∷ "lane shot WNW nyn" ∷ "lane plot NRN yyy" ∷ "lane tune NNW nyn" ∷ [])) ∷
     pairs lanes 152 (32 ∷ 40 ∷ 72 ∷ 40 ∷ 112 ∷ 20 ∷ 132 ∷ 20 ∷ []) ∷
@@ -144,7 +144,7 @@ starred =
     plays endless (send 0 (to (object 0) 0 0) ∷ replicate 8 (step 0)) (done ∷ replicate 7 going ++ (stopped ∷ [])) [] ∷ []
 
 -- The builder's numbers, and the buffers after a refusal.
-abbrev lent : List Row
+abbrev pub lent : List Row
 lent =
     finds lanes 3 "set focus arg" ∷
     misses lanes 5 23 ∷
@@ -158,7 +158,7 @@ lent =
     starts mixed (replicate 4 9) (5 ∷ 7 ∷ 0 ∷ 4294967295 ∷ []) ∷ []
 
 -- Resolution, cycles, prefixes.
-abbrev vectors : List Row
+abbrev pub vectors : List Row
 vectors =
     prints diamond (text ("a m WN n" ∷ "b m WNN n" ∷ "c m NW n" ∷ "d m WNN n" ∷ [])) ∷
     prints circle (text ("a p WRW nnnn" ∷ "a q WRW nnnn" ∷ "a r WRW nnnn" ∷ "a s WRW nnnn" ∷ [])) ∷
@@ -167,7 +167,7 @@ vectors =
 -- In `mixed` the methods of a and b are g 0 and h 1; the objects are one of a, one of b and another of a. They are visited in text order,
 -- those of a domain and those of a class. `got` is 0 where a method opens, sent or called. A first send that gets 36 leaves its slot
 -- closed; one that gets 40 opens it.
-abbrev machine : List Row
+abbrev pub machine : List Row
 machine =
     plays mixed (send 0 (to (domain 0) 0 3) ∷ replicate 12 (step 0)) (done ∷ replicate 11 going ++ (answer 18 ∷ [])) (8 ∷ 7 ∷ 3 ∷ 2 ∷ []) ∷
     plays mixed (send 0 (to (domain 0) 0 3) ∷ replicate 4 (step 0)) (done ∷ replicate 4 going) (8 ∷ 7 ∷ 3 ∷ 4294967295 ∷ []) ∷
@@ -186,7 +186,7 @@ machine =
 -- Additions. In `tally` the methods are count 0, look 1, fix 2, twice 3, maybe 4, both 5. They run side by side and are taken back one
 -- by one; a set notes the value right before it less what was added until then, and what is added after it is lost with it; an
 -- addition that is skipped is none.
-abbrev additions : List Row
+abbrev pub additions : List Row
 additions =
     prints tally (text ("a count AN ynnnyn" ∷ "a look RN nynnnn" ∷ "a fix WN nnnnnn" ∷ "a twice WN nnnnnn" ∷ "a maybe AR ynnnyn" ∷ "a both WN nnnnnn" ∷ [])) ∷
     images tally
@@ -217,7 +217,7 @@ additions =
 -- with those ahead; a new send waits behind a waiting one that it clashes with, and starts when that one is withdrawn; a send whose
 -- locks its slot holds passes, one to an object after one to its class does not, and would wait for one that waits for its slot; 41 and
 -- commit wake; and a list against the course.
-abbrev line : List Row
+abbrev pub line : List Row
 line =
     plays mixed
     (send 6 (to (object 0) 0 1) ∷ send 5 (to (object 0) 0 2) ∷ send 3 (to (object 0) 0 4) ∷ send 7 (to (object 0) 0 8) ∷
@@ -254,7 +254,7 @@ crossing =
     send 1 (to (object 2) 0 4) ∷ replicate 3 (step 1)) ++
     (step 0 ∷ commit 1 ∷ replicate 3 (step 0)) ++ (commit 0 ∷ replicate 3 (step 2)) ++ (commit 2 ∷ [])
 
-abbrev circles : List Row
+abbrev pub circles : List Row
 circles =
     plays mixed crossing
     (done ∷ going ∷ going ∷ answer 6 ∷ done ∷ going ∷ going ∷ answer 0 ∷
@@ -274,14 +274,14 @@ circles =
     []
 
 -- A message of 1,024 steps, and one of one more step.
-abbrev stops : List Row
+abbrev pub stops : List Row
 stops =
     plays long (send 0 (to (object 0) 1 0) ∷ replicate 1024 (step 0)) (done ∷ replicate 1023 going ++ (answer 0 ∷ [])) (961 ∷ []) ∷
     plays long (send 0 (to (object 0) 2 0) ∷ replicate 1025 (step 0)) (done ∷ replicate 1023 going ++ (stopped ∷ refuse 32 ∷ [])) (0 ∷ []) ∷ []
 
 -- A list that leaves nothing open, against the plain course; and what is compared of one in which slot 0 gets its answers before slot 1
 -- and commits after it, slot 2 aborts after an answer and is open in the end with another.
-abbrev courses : List Row
+abbrev pub courses : List Row
 courses =
     agrees mixed
     (send 0 (to (object 0) 0 1) ∷ send 1 (to (class 1) 0 2) ∷ step 0 ∷ step 1 ∷ step 1 ∷ step 0 ∷ step 1 ∷ step 1 ∷ step 0 ∷ step 1 ∷ step 1 ∷
@@ -297,7 +297,7 @@ courses =
 abbrev adder : List ℕ
 adder = text ("class a" ∷ "field x" ∷ "method m" ∷ "set x + x arg" ∷ "end" ∷ "object o a 5" ∷ [])
 
-abbrev rehearsals : List Row
+abbrev pub rehearsals : List Row
 rehearsals =
     rehearses adder
     (text
@@ -311,66 +311,6 @@ rehearsals =
     rehearses [] [] [] ∷
     []
 
--- ---- every row passes, a group at a time
-
-abbrev Passing : List Row → Type 0
-Passing rs = every passes rs ≡ true
-
-both : (qs rs : List Row) → Passing qs → Passing rs → Passing (qs ++ rs)
-unfolding every
-both [] rs h k = k
-both (q ∷ qs) rs h k = go (passes q) (λ e. both qs rs e k) h
-  where
-    go : (b : Bool) → (Passing qs → Passing (qs ++ rs)) → b && every passes qs ≡ true → b && every passes (qs ++ rs) ≡ true
-    go true rest e = rest e
-    go false rest e = e
-
-starred_pass : Passing starred
-unfolding every passes lanes figure1 endless text
-starred_pass = refl
-
-lent_pass : Passing lent
-unfolding every passes lanes mixed text
-lent_pass = refl
-
-vectors_pass : Passing vectors
-unfolding every passes text diamond circle prefixed
-vectors_pass = refl
-
-machine_pass : Passing machine
-unfolding every passes mixed echo
-machine_pass = refl
-
-additions_pass : Passing additions
-unfolding every passes tally text
-additions_pass = refl
-
-line_pass : Passing line
-unfolding every passes mixed spiral
-line_pass = refl
-
-circles_pass : Passing circles
-unfolding every passes mixed
-circles_pass = refl
-
-stops_pass : Passing stops
-unfolding every passes long
-stops_pass = refl
-
-courses_pass : Passing courses
-unfolding every passes mixed
-courses_pass = refl
-
-rehearsals_pass : Passing rehearsals
-unfolding every passes lanes text
-rehearsals_pass = refl
-
 -- The table.
 abbrev pub rows : List Row
 rows = starred ++ (lent ++ (vectors ++ (machine ++ (additions ++ (line ++ (circles ++ (stops ++ (courses ++ rehearsals))))))))
-
--- Every row passes.
-pub every_row_passes : every passes rows ≡ true
-every_row_passes =
-    both starred _ starred_pass (both lent _ lent_pass (both vectors _ vectors_pass (both machine _ machine_pass
-    (both additions _ additions_pass (both line _ line_pass (both circles _ circles_pass (both stops _ stops_pass (both courses _ courses_pass rehearsals_pass))))))))
