@@ -1,5 +1,6 @@
 // What every call tests first (01, "The machine") on the lent text, state and values.
 #![tactic(auto)]
+
 ghost use Rattle.std.specs.Prelude.{◌≡◌};
 ghost use Rattle.machine_words.specs.Calls.{lending, row_of, phase_of, misfit_of, is_counted};
 ghost use Rattle.machine_checks.specs.Phases.{first_refusal, idle_refusal};

@@ -1,6 +1,7 @@
 // The value of an expression, read from the text of its statement (01, "Statements"): nothing is kept of an expression but
 // its words, and each use reads them again.
 #![tactic(auto)]
+
 ghost use Rattle.std.specs.Prelude.{◌≡◌, ℕ, ◌*◌, ◌%◌, length, drop, int_lt};
 ghost use Rattle.model.specs.Base.{digit};
 ghost use Rattle.model.specs.Text.{words};

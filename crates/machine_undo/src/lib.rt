@@ -1,6 +1,7 @@
 // The undo notes of a slot's row: for each value a mark where it was changed, another where it was set, and the word of its note. That
 // is the sum that was added to it so far or, once it was set, the value that undoing gives.
 #![tactic(auto)]
+
 pub mod release;
 
 ghost use Rattle.std.specs.Prelude.{◌≡◌, ◌+◌, ◌*◌, ◌/◌, ◌^◌, ◌<◌, ◌≤◌, true, length, set, bit_or, slice_index, slice_set};

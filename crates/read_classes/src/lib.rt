@@ -1,6 +1,7 @@
 // The lines of a class in the second pass: class, field and method lines. A line function answers the line's fault, or records
 // the line and answers 0. A line is given by two places; what lies past the end of the text is left out.
 #![tactic(auto)]
+
 ghost use Rattle.std.specs.Prelude.{ℕ, min, ◌≤◌, ◌<◌, ◌≡◌, ◌||◌, List, length, eqb};
 ghost use Rattle.layout.specs.Layout.{table_words};
 ghost use Rattle.model.specs.Library.{class_at, above};

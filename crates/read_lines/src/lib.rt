@@ -1,6 +1,7 @@
 // The lines of bodies and of objects in the second pass: statement and object lines. A line function answers the line's fault, or
 // records the line and answers 0. A line is given by two places; what lies past the end of the text is left out.
 #![tactic(auto)]
+
 ghost use Rattle.std.specs.Prelude.{ℕ, ◌≤◌, ◌<◌, ◌≡◌, List, [], ◌∷◌, length};
 ghost use Rattle.layout.specs.Layout.{table_words};
 ghost use Rattle.model.specs.Text.{pieces, words};

@@ -1,6 +1,7 @@
 // The second pass over a text, and the verdict on it (01, "Numbers given"): 11, then 12, then 13 to 17 from the first line on.
 // The lines are recorded in the tables, which represent the text's library where it is accepted.
 #![tactic(auto)]
+
 ghost use Rattle.std.specs.Prelude.{◌≤◌, ◌≡◌, length};
 ghost use Rattle.layout.specs.Layout.{table_words};
 ghost use Rattle.model.specs.Text.{lines_and_rest};

@@ -1,5 +1,6 @@
 // Which methods commute (01, "Vectors and commuting"): the fields of a vector in each mode, and the table of the modes that go together.
 #![tactic(auto)]
+
 ghost use Rattle.std.specs.Prelude.{◌<◌, ◌≡◌, length};
 ghost use Rattle.model.specs.Mode.{compatible};
 ghost use Rattle.vector_commute.specs.Ranks.{pair_apart, row_apart};
