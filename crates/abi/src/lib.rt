@@ -1,6 +1,7 @@
 // The entries of crate `cishmolaq` for C and Rust: `host/include/cishmolaq.h` says what each needs and answers.
 // An answer is a number, 0 where it is done; a length or a line goes through a lent place.
 #![tactic(auto)]
+
 ghost use Rattle.std.specs.Prelude.{◌≡◌, length};
 ghost use Rattle.layout.specs.Layout.{state_words};
 ghost use Rattle.model.specs.Told.{check_answer};

@@ -1,6 +1,7 @@
 // The layout of the state's words, stated once: sizes first, and places derived from them. specs/Layout.antt has the same names
 // for definitions. A place within a class, an object or an activation is a u32, since it is added to a number of the tables.
 #![tactic(auto)]
+
 ghost use Rattle.std.specs.Prelude.{◌≡◌};
 ghost use Rattle.layout.specs.Layout.{state_words, values_most};
 
