@@ -1,7 +1,6 @@
 -- The answers of this crate in the definition's terms, and what carrying out a turn leaves.
 use Rattle.std.specs.Prelude.{◌≡◌, ℕ, List}
 use Rattle.model.specs.Service as Model
-use Rattle.machine_words.specs.Row as State
 use Rattle.machine_words.specs.Row.{Left}
 use Rattle.machine_apply.specs.declared.Said.{Said}
 use Rattle.machine_apply.specs.declared.Said.TheVariants.{Unfit, Going, Halted, Answered}

@@ -1,5 +1,6 @@
 // Carries out a turn on a slot's row and the values.
 #![tactic(auto)]
+
 ghost use Rattle.std.specs.Prelude.{◌≡◌, ◌-◌, length, slice_set};
 ghost use Rattle.layout.specs.Layout.{phase_at, row_words};
 ghost use Rattle.model.specs.Message.{changed};

@@ -1,6 +1,6 @@
 -- The slots in a send's way, as the code finds them: those that are open and hold a conflict; and a send to an object that starts
 -- at once, since no slot holds one.
-use Prim.Native.Nat.{ℕ, zero, suc, ◌+◌, ◌-◌, ◌*◌, ◌^◌, ◌≤◌, ◌<◌}
+use Prim.Native.Nat.{ℕ, zero, suc, ◌+◌, ◌-◌, ◌*◌, ◌^◌, ◌<◌}
 use native.Mathlib.Omega.{arith}
 use Rattle.std.proofs.Common.{add-one, ap₂, subst, ◌∙◌, true≢false}
 use Rattle.std.specs.Prelude.{◌≡◌, Bool, not, cond, ◌&&◌, ◌||◌, get_or, take, drop}
@@ -15,7 +15,7 @@ use Rattle.model.specs.Base.{digit, any}
 use Rattle.laws.specs.Lists.{both_left, both_right}
 use Rattle.catalog.specs.Bodies.{named_at}
 use Rattle.machine_words.specs.Request.{Wanted, meets, row_meets}
-use Rattle.machine_words.specs.Line.{tables_of, row_start, row_of, phase_of, count_in, first_in_line, waits_ahead, holder_at, waiter_at, blocks, in_the_way}
+use Rattle.machine_words.specs.Line.{tables_of, row_start, row_of, phase_of, count_in, waits_ahead, holder_at, waiter_at, blocks, in_the_way}
 use Rattle.machine_words.specs.Rows.{waiting_part}
 use Rattle.machine_words.specs.Meeting.{meets_or}
 use Rattle.machine_conflicts.specs.Clashing.{held_at, holds_one, conflicts_of, meets_object, meets_class}

@@ -1,6 +1,7 @@
 // What the next step of a running message is (01, "The machine"), by the text, the tables, the slot's row and the values.
 // It reads only; crates/machine_apply carries the turn out.
 #![tactic(auto)]
+
 ghost use Rattle.std.specs.Prelude.{◌≡◌, ◌<◌, slice_index};
 ghost use Rattle.layout.specs.Layout.{steps_at, object_at};
 ghost use Rattle.machine_words.specs.Turn.{next_turn, end_turn, activation_turn, decided_wide, decided};

@@ -1,5 +1,5 @@
 -- A send that joins the line: its words, its slot's row, and its place.
-use Rattle.std.specs.Prelude.{ℕ, zero, suc, ◌+◌, ◌%◌, ◌≤◌, ◌<◌, ◌≡◌, refl, ◌≢◌, ◌⊎◌, Bool, true, false, not, length, set, replicate, eqb}
+use Rattle.std.specs.Prelude.{ℕ, zero, suc, ◌≤◌, ◌<◌, ◌≡◌, refl, ◌≢◌, Bool, true, false, not, length, set, replicate, eqb}
 use Rattle.std.proofs.Common.{arith, sym, ap, subst, ◌∙◌, inl, inr, ⊎_elim, true≢false, length-append, eqb-true}
 use Rattle.std.proofs.Math.Option.{none}
 use mathlib.Core.List.Memᴰ
@@ -26,7 +26,7 @@ use Rattle.machine_words.specs.Calls.{Lent, with_words, tables_of, row_of, phase
 use Rattle.machine_refinement.specs.Rep.{Holds, NowRep, OpenRep, SlotRep, method_of, Aims, message_for, Waits, settled, RepAt, Rep, one, each, whole}
 use Rattle.machine_refinement.specs.Runs.{note_same}
 use Rattle.machine_refinement.specs.Stores.{else_word, new_word}
-use Rattle.machine_refinement.specs.Locks.{blank_word, blank_holds, holds_alike, few_members}
+use Rattle.machine_refinement.specs.Locks.{blank_word, blank_holds, holds_alike}
 use Rattle.machine_refinement.specs.Freeing.{clean_alike}
 use Rattle.machine_refinement.specs.Taking.{Took, took_locks}
 use Rattle.machine_refinement.specs.WaitRows.{written_long, written_phase, written_words, withdrawn_back, settled_ready, settled_waits}

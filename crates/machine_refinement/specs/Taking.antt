@@ -21,7 +21,7 @@ use Rattle.text_theory.specs.Accepted.{or_false}
 use Rattle.catalog.specs.View.{class_count, object_count, member_count}
 use Rattle.laws.specs.Bits.{bit, bit_or_law, bit_one}
 use Rattle.machine_words.specs.Row.{lock_marked, with_bits}
-use Rattle.machine_words.specs.Request.{Wanted, place_in, in_domain, concerns, with_lock, domain_lock, locked, wanted}
+use Rattle.machine_words.specs.Request.{Wanted, place_in, concerns, with_lock, domain_lock, locked, wanted}
 use Rattle.machine_refinement.specs.Rep.{Fits, lock_word, lock_bit, Holdable, Holds, Clean, method_of, Aims, one, each, whole}
 use Rattle.machine_refinement.specs.Tables.{class_total, method_total, class_is}
 use Rattle.machine_refinement.specs.Stores.{else_word, new_word}

@@ -1,6 +1,6 @@
 -- The waking of the line over the words does what the model's does.
-use Rattle.std.specs.Prelude.{ℕ, suc, ◌+◌, ◌≤◌, ◌<◌, ◌≡◌, ◌≢◌, ◌⊎◌, Bool, true, not, cond, ◌&&◌, get_or, set, take, drop, ltb}
-use Rattle.std.proofs.Common.{arith, sym, ap₂, ◌∙◌, inr, ⊎_elim, true≢false, length-take, length-drop, drop-cons, drop-set-lt}
+use Rattle.std.specs.Prelude.{ℕ, suc, ◌+◌, ◌≤◌, ◌<◌, ◌≡◌, ◌≢◌, Bool, true, not, cond, get_or, set, take, drop, ltb}
+use Rattle.std.proofs.Common.{arith, sym, ◌∙◌, inr, ⊎_elim, true≢false, length-take, length-drop, drop-cons, drop-set-lt}
 use Rattle.std.proofs.Math.Path.{refl, ap, subst}
 use Rattle.std.proofs.Math.Bool.{false}
 use Rattle.std.proofs.Math.Option.{Option, none, some}
