@@ -1,6 +1,7 @@
 // What a start works out from the tables of an accepted text: the masks of its methods, each class's domain, where each
 // object's values begin, and the words that tell whether what a later call is lent fits; and the state that it leaves.
 #![tactic(auto)]
+
 ghost use Rattle.std.specs.Prelude.{◌%◌, ◌≤◌, ◌≡◌, ◌++◌, length, take, drop, replicate};
 ghost use Rattle.layout.specs.Layout.{table_words, slots_words, state_words};
 ghost use Rattle.catalog.specs.View.{class_count, object_count};
