@@ -2,6 +2,7 @@
 // `machine_conflicts`, and what it writes into its row is written by `machine_take`; a transaction's locks are released by
 // `machine_undo::release`. docs/LOCKS.md explains it; the rules are in crates/machine_words/specs/Request.antt and Line.antt.
 #![tactic(auto)]
+
 mod grant;
 pub mod request;
 pub mod wake;
