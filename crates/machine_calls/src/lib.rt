@@ -1,6 +1,7 @@
 // The calls of the machine (01, "The machine"): commit and abort here, send and step in their modules. What a call answers and leaves
 // is `called` in crates/machine_words/specs/Calls.antt, whatever is lent.
 #![tactic(auto)]
+
 pub mod send;
 pub mod step;
 
