@@ -1,6 +1,7 @@
 // Call lines (02, Ticket 2): each is read, its call made on the lent memory, and its answer's line written. Also writes the lines
 // of the objects.
 #![tactic(auto)]
+
 mod answer;
 mod name;
 mod objects;

@@ -2,6 +2,7 @@
 // prints, a start on it) read the text anew into tables of their own. The calls of the machine work on the lent state. Each is
 // total, and writes to what is lent only where it gives no number, 40 or 41.
 #![tactic(auto)]
+
 ghost use Rattle.std.specs.Prelude.{ℕ, ◌≡◌, List, length};
 ghost use Rattle.layout.specs.Layout.{table_words};
 ghost use Rattle.model.specs.Read.{accepted, read};

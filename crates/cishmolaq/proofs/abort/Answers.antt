@@ -1,0 +1,6 @@
+-- `abort` meets its contract: what keeps to the definition keeps all that is promised.
+use Rattle.cishmolaq.specs.Promises.{promised}
+use Rattle.cishmolaq.proofs.abort.Goals as goal
+
+pub returns : goal.returns
+returns c = promised _ _ _ _ c.abort.ensures

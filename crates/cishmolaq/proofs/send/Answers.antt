@@ -1,0 +1,6 @@
+-- `send` meets its contract: what keeps to the definition keeps all that is promised.
+use Rattle.cishmolaq.specs.Promises.{promised}
+use Rattle.cishmolaq.proofs.send.Goals as goal
+
+pub returns : goal.returns
+returns c = promised _ _ _ _ c.send.ensures
