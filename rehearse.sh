@@ -20,7 +20,7 @@ if [ $# -gt 1 ]; then
 fi
 cd "$here"
 prove rehearse
-program=$PWD/target/bin/rehearse
+program=$PWD/crates/rehearse/out/rehearse
 
 play() {
     (cd "$folder" && exec "$program")

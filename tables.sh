@@ -11,6 +11,6 @@ take_words 1 "$@"
 lend "${1:-$here/samples/lanes.txt}"
 cd "$here"
 prove tables
-target/bin/tables < "$folder/lib.txt" > "$folder/printed"
+crates/tables/out/tables < "$folder/lib.txt" > "$folder/printed"
 stop_if_refused "$(head -n 1 "$folder/printed")"
 cat "$folder/printed"

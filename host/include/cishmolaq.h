@@ -1,5 +1,5 @@
 /* The entries over a class text and the lock machine, for C: what each function needs, what it answers, and every number
- * it can give. `rt staticlib abi` proves the functions and writes target/staticlib/libabi.a; link that file, nothing else
+ * it can give. `rt lib` in crates/abi proves the functions and writes crates/abi/out/libabi.a; link that file, nothing else
  * is needed.
  *
  * A slice is a pointer and the count of its elements. Every call needs, and nothing checks:

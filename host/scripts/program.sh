@@ -36,11 +36,11 @@ crates_of() { # NAME
             for (i = 1; i <= n; i++) reach(uses[i])
         }
         { sub(/#.*/, "") }
-        /:/ { name = $0; sub(/:.*/, "", name); sub(/^[^:]*:/, ""); line[name] = $0 }
+        /:/ { name = $0; sub(/[ :].*/, "", name); sub(/^[^:]*:/, ""); line[name] = $0 }
         END { reach(top); print count + 0 }' crates.txt
 }
 
-# Passes on what rt prints, and tells of each crate that it proves and each edit that it tries: which of how many.
+# Passes on what `rt ci` prints, and tells of each crate that it proves and each edit that it tries: which of how many.
 follow() { # CRATES EDITS
     proved=0 tried=0
     while IFS= read -r line || [ -n "$line" ]; do
@@ -50,14 +50,46 @@ follow() { # CRATES EDITS
             tried=$((tried + 1))
             say "edit $tried of $2: ${line#rt: must-fail }"
             ;;
-        "rt: "*" proved (unchanged "*) proved=$((proved + 1)) ;;
-        "rt: "*" proved ("* | "rt: "*" NOT PROVED"*)
+        "rt: "*": trying its must-fail edits"*) say "${line#rt: }" ;;
+        "rt: "*": its tests are "*) say "${line#rt: }" ;;
+        "rt: "*" is kept: "*) proved=$((proved + 1)) ;;
+        "rt: "*" proved" | "rt: "*" NOT PROVED"*)
             proved=$((proved + 1))
             say "crate $proved of $1: ${line#rt: }"
             ;;
         "rt: "*" ran"*) say "program: ${line#rt: }" ;;
         esac
     done
+}
+
+# Passes on what `rt lib` or `rt run` prints, and tells of each crate that it proves. What has not changed is not proved again, and goes
+# untold.
+follow_build() { # CRATES
+    proved=0 name=
+    while IFS= read -r line || [ -n "$line" ]; do
+        printf '%s\n' "$line"
+        case $line in
+        "crate "*": modules "*)
+            name=${line#crate }
+            name=${name%%:*}
+            ;;
+        "logic="*)
+            [ -n "$name" ] || continue
+            proved=$((proved + 1))
+            how="NOT PROVED"
+            case $line in "logic=proved "*) how=proved ;; esac
+            say "crate $proved of at most $1: $name $how"
+            name=
+            ;;
+        esac
+    done
+}
+
+# Has `rt lib` or `rt run` prove and build a crate and those below it, and passes on what it prints. A program is run without input. The
+# folder takes a note where that fails.
+build() { # NAME lib|run FOLDER
+    { (cd "crates/$1" && rt "$2" < /dev/null) 2>&1 || echo "$?" > "$3/failed"; } | follow_build "$(crates_of "$1")"
+    [ ! -e "$3/failed" ]
 }
 
 # Makes a folder that goes when the script ends, with the text as its lib.txt.
@@ -74,12 +106,8 @@ lend() { # TEXT
 # Proves and builds a program where that is not done yet; after lend, whose folder it uses.
 prove() { # NAME
     command -v rt > /dev/null || { say "the Rattle kit's rt is not on the PATH"; exit 2; }
-    [ -x "target/bin/$1" ] || say "proving and building $1: some minutes the first time, later runs start at once"
-    { rt check "$1" < /dev/null 2>&1 || echo "$?" > "$folder/failed"; } | follow "$(crates_of "$1")" 0 > "$folder/log"
-    if [ -e "$folder/failed" ]; then
-        tail -n 20 "$folder/log" >&2
-        exit 1
-    fi
+    [ -x "crates/$1/out/$1" ] || say "proving and building $1: some minutes the first time, later runs start at once"
+    build "$1" run "$folder" > "$folder/log" || { tail -n 20 "$folder/log" >&2; exit 1; }
 }
 
 # Says so where lines of a file end with CR LF.

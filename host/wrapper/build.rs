@@ -1,4 +1,4 @@
-//! Links the archive that `rt staticlib abi` writes, and takes over the constants of its layout. CISHMOLAQ_ARCHIVE names the archive's
+//! Links the archive that `rt lib` writes in crates/abi, and takes over the constants of its layout. CISHMOLAQ_ARCHIVE names the archive's
 //! folder where it lies elsewhere.
 
 use std::path::{Path, PathBuf};
@@ -18,11 +18,11 @@ fn main() {
     println!("cargo:rerun-if-env-changed=CISHMOLAQ_ARCHIVE");
     let folder = match std::env::var("CISHMOLAQ_ARCHIVE") {
         Ok(folder) => PathBuf::from(folder),
-        Err(_) => root.join("target/staticlib"),
+        Err(_) => root.join("crates/abi/out"),
     };
     let archive = folder.join("libabi.a");
     println!("cargo:rerun-if-changed={}", archive.display());
-    assert!(archive.is_file(), "{} is missing: run `rt staticlib abi` first", archive.display());
+    assert!(archive.is_file(), "{} is missing: run `rt lib` in crates/abi first", archive.display());
     println!("cargo:rustc-link-search=native={}", folder.display());
     println!("cargo:rustc-link-lib=static=abi");
 }

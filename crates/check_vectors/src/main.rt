@@ -1,87 +1,101 @@
 // Prints for each text that its arguments name: its name and its verdict (the number of the fault and its line, 0 0 for an
 // accepted text), what `tables` prints, and the bytes of its image. The texts and these answers are the test vectors'.
+// A write that fails is let go.
 #![tactic(auto)]
-use libc::STDOUT_FILENO;
+
+use std::env::FillError;
+use std::io::Read;
+use std::rt::{Env, Files};
+use std::{fs, str};
 
 // Writes a space and a number.
-fn print_number(n: u64) {
-    io::write_all(STDOUT_FILENO, b" ");
-    io::print_decimal(STDOUT_FILENO, n);
+fn print_number(rt: &impl Print, n: u64) {
+    let _ = print!(rt; " {n}");
 }
 
 // Writes the number and the line of a verdict.
-fn print_verdict(verdict: reader::Verdict) {
+fn print_verdict(rt: &impl Print, verdict: reader::Verdict) {
     match verdict {
         reader::Verdict::Accepted => {
-            print_number(0);
-            print_number(0);
+            print_number(rt, 0);
+            print_number(rt, 0);
         }
         reader::Verdict::Refused(number, line) => {
-            print_number(number as u64);
-            print_number(line as u64);
+            print_number(rt, number as u64);
+            print_number(rt, line as u64);
         }
     }
-    io::write_all(STDOUT_FILENO, b"\n");
+    let _ = rt.write_all(b"\n");
 }
 
 // Writes out the first bytes of a part.
-fn print_front(part: &[u8], size: usize) {
+fn print_front(rt: &impl Print, part: &[u8], size: usize) {
     if size <= part.len() {
         let start = 0;
-        io::write_all(STDOUT_FILENO, &part[start..size]);
+        let _ = rt.write_all(&part[start..size]);
     }
 }
 
 // Writes out what a call has put into a part; nothing where it was refused.
-fn print_done(part: &[u8], answer: cishmolaq::Answer) {
+fn print_done(rt: &impl Print, part: &[u8], answer: cishmolaq::Answer) {
     match answer {
-        cishmolaq::Answer::Done(size) => print_front(part, size),
+        cishmolaq::Answer::Done(size) => print_front(rt, part, size),
         cishmolaq::Answer::Refused(_, _) => {}
     }
 }
 
 // Writes what `tables` prints for the text.
-fn print_lines(text: &[u8]) {
+fn print_lines(rt: &impl Print, text: &[u8]) {
     let mut lines = [0u8; 66560];
     let answer = cishmolaq::print_tables(text, &mut lines);
-    print_done(&lines, answer);
+    print_done(rt, &lines, answer);
 }
 
 // Writes the image of the text, nothing where it is refused.
-fn print_image(text: &[u8]) {
+fn print_image(rt: &impl Print, text: &[u8]) {
     let mut image = [0u8; 40992];
     let answer = cishmolaq::compile(text, &mut image);
-    print_done(&image, answer);
+    print_done(rt, &image, answer);
 }
 
-// Reads the file and writes its answers.
-fn check_file(path: &[u8]) {
-    let fd = os::open_read(path);
-    if fd < 0 {
-        os::fail(path);
-        return;
+// Reads the text and writes its answers.
+fn check_text(rt: &impl Print, path: &str, file: &mut impl Read) {
+    // Twice the longest text: a longer one is cut, and is refused as too long all the same.
+    let mut text = [0u8; 65536];
+    let size = streams::read_full(file, &mut text);
+    let _ = rt.write_all(path.as_bytes());
+    print_verdict(rt, cishmolaq::check(&text[..size]));
+    print_lines(rt, &text[..size]);
+    print_image(rt, &text[..size]);
+}
+
+// Reads the file and writes its answers, or why it can't be opened.
+fn check_file(rt: &(impl Files + Print + Eprint), path: &str) {
+    match fs::open(rt, path) {
+        Ok(mut file) => check_text(rt, path, &mut file),
+        Err(error) => {
+            let _ = eprintln!(rt; "{path}: {error}");
+        }
     }
-    let mut text = io::large_buffer();
-    let size = io::read_full(fd, &mut text);
-    libc::close(fd);
-    io::write_all(STDOUT_FILENO, path);
-    print_verdict(cishmolaq::check(&text[..size]));
-    print_lines(&text[..size]);
-    print_image(&text[..size]);
 }
 
-// Checks the text that one argument names.
-fn check_argument(i: usize) {
-    let mut path = io::buffer();
-    let size = os::arg(i, &mut path);
-    check_file(&path[..size]);
+// Checks the text that one argument names, and answers whether there is such an argument. One that is longer than a path, or
+// is not UTF-8, names no file.
+fn check_argument(rt: &(impl Env + Files + Print + Eprint), i: usize) -> bool {
+    let mut path = [0u8; 4096];
+    let size = match rt.arg(i, &mut path) {
+        Ok(size) => size,
+        Err(FillError::TooLong) => 0,
+        Err(FillError::NotPresent) => return false,
+    };
+    check_file(rt, str::from_utf8(&path[..size]).unwrap_or(""));
+    true
 }
 
-fn main() {
-    let count = os::arg_count();
-    let mut i = 1;
-    while i < count {
-        check_argument(i);
-        i += 1;
+fn main(rt: HostRuntime) {
+    for i in 1..usize::MAX {
+        if !check_argument(&rt, i) {
+            break;
+        }
     }
 }

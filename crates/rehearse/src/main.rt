@@ -1,6 +1,6 @@
 // Plays the call lines on standard input against the class text `lib.txt`.
 #![tactic(auto)]
 
-fn main() {
-    rehearse_run::run();
+fn main(rt: HostRuntime) {
+    rehearse_run::run(&rt);
 }

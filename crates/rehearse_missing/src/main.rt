@@ -1,6 +1,6 @@
 // `rehearse` where there is no `lib.txt`: it counts as the empty text.
 #![tactic(auto)]
 
-fn main() {
-    rehearse_run::run();
+fn main(rt: HostRuntime) {
+    rehearse_run::run(&rt);
 }

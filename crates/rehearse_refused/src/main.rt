@@ -1,6 +1,6 @@
 // `rehearse` on a faulty `lib.txt`: one line, and no call is run.
 #![tactic(auto)]
 
-fn main() {
-    rehearse_run::run();
+fn main(rt: HostRuntime) {
+    rehearse_run::run(&rt);
 }

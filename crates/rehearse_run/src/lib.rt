@@ -2,17 +2,22 @@
 // writes their answers to standard output. Each part of the input is answered before more is waited for. No contract speaks of
 // files: of whatever was read, each byte is answered once and in order, and as much is written out as its answers have.
 #![tactic(auto)]
+
 ghost use Rattle.std.specs.Prelude.{◌*◌, ◌≤◌, ◌≡◌, length};
-ghost use Rattle.io.specs.Counts.{IsPrefixLen};
 ghost use Rattle.machine_words.specs.Calls.{lending};
 ghost use Rattle.rehearsal.specs.Feeds.{widest};
+ghost use Rattle.streams.specs.Counts.{IsPrefixLen};
 ghost use Rattle.rehearse_run.specs.Plays.{PlaysPart, ReadsOnce, PlaysAll, Plays, Rehearsed, Runs};
 
-use libc::{STDIN_FILENO, STDOUT_FILENO};
 use rehearsal::Prepared;
+use std::fs;
+use std::rt::Files;
 
 // One byte more than the longest text: a text that fills it is too long, however long it is.
 const TEXT: usize = 32769;
+
+// The most bytes that are read at once.
+const PART: usize = 4096;
 
 // Room for an answer to each byte of a part; what is printed at the start and at the end is less.
 const ROOM: usize = 4096 * rehearsal::WIDEST;
@@ -28,31 +33,29 @@ struct Turn {
     written: usize,
 }
 
-// Writes out the first bytes of the lines, and answers how many.
-fn print_front(lines: &[u8], size: usize) -> usize
+// Writes out the first bytes of the lines, and answers how many. A write that fails is let go.
+fn print_front(rt: &impl Print, lines: &[u8], size: usize) -> usize
     requires { size ≤ length lines.now }
     ensures { result ≡ size }
 {
     let front = &lines[..size];
-    io::write_all(STDOUT_FILENO, front);
+    let _ = rt.write_all(front);
     front.len()
 }
 
 // Reads the class text, as much of it as there is room for, and answers its length: 0 where it can't be opened or read.
-fn read_library(text: &mut [u8]) -> usize
+fn read_library(rt: &impl Files, text: &mut [u8]) -> usize
     ensures { IsPrefixLen result text.new }
 {
-    let fd = os::open_read(b"lib.txt");
-    if fd < 0 {
-        return 0;
+    match fs::open(rt, "lib.txt") {
+        Ok(mut file) => streams::read_full(&mut file, text),
+        Err(_) => 0,
     }
-    let size = io::read_full(fd, text);
-    libc::close(fd);
-    size
 }
 
 // Answers the lines of a part, all of which is read, and writes the answers out.
 fn play_part(
+    rt: &impl Print,
     text: &[u8],
     state: &mut [u32],
     values: &mut [u32],
@@ -66,7 +69,7 @@ fn play_part(
         (lending text.now state.new values.new) line.new out.new result.read result.kept result.written }
 {
     let fed = rehearsal::feed(text, state, values, line, kept, part, out);
-    let written = print_front(out, fed.size);
+    let written = print_front(rt, out, fed.size);
     Turn {
         read: fed.read,
         kept: fed.kept,
@@ -76,6 +79,7 @@ fn play_part(
 
 // Reads once, and answers what came.
 fn read_once(
+    rt: &(impl Input + Print),
     text: &[u8],
     state: &mut [u32],
     values: &mut [u32],
@@ -87,15 +91,15 @@ fn read_once(
     ensures { ReadsOnce (lending text.now state.old values.old) line.old kept out.old
         (lending text.now state.new values.new) line.new out.new result.read result.kept result.written }
 {
-    let mut part = io::buffer();
-    let got = libc::read(STDIN_FILENO, &mut part);
-    let size = io::count(got, &part);
-    play_part(text, state, values, line, kept, &part[..size], out)
+    let mut part = [0u8; PART];
+    let size = streams::read_once(&mut rt.reader(), &mut part);
+    play_part(rt, text, state, values, line, kept, &part[..size], out)
 }
 
 // Reads to the end of the input. A proved loop ends, and nothing says that the input does: the turns are counted down from a
 // number that no run uses up.
 fn play_all(
+    rt: &(impl Input + Print),
     text: &[u8],
     state: &mut [u32],
     values: &mut [u32],
@@ -108,7 +112,7 @@ fn play_all(
     let mut kept = 0;
     let mut turns = u64::MAX;
     while turns > 0 {
-        let next = read_once(text, state, values, line, kept, out);
+        let next = read_once(rt, text, state, values, line, kept, out);
         kept = next.kept;
         if next.read == 0 {
             return kept;
@@ -119,18 +123,24 @@ fn play_all(
 }
 
 // Plays the input on a machine that is started, writes out what is printed at the end, and answers how many bytes this is.
-fn play(text: &[u8], state: &mut [u32], values: &mut [u32], out: &mut [u8]) -> usize
+fn play(
+    rt: &(impl Input + Print),
+    text: &[u8],
+    state: &mut [u32],
+    values: &mut [u32],
+    out: &mut [u8],
+) -> usize
     requires { 4096 * widest ≤ length out.old }
     ensures { Plays (lending text.now state.old values.old) (lending text.now state.new values.new) out.new result }
 {
     let mut line = [0u8; LINE];
-    let kept = play_all(text, state, values, &mut line, out);
+    let kept = play_all(rt, text, state, values, &mut line, out);
     let size = rehearsal::finish(text, state, values, &line, kept, out);
-    print_front(out, size)
+    print_front(rt, out, size)
 }
 
 // Rehearses on a text: writes out the line of a refused one, or plays the input. Answers how many bytes were written out last.
-fn rehearse(text: &[u8]) -> usize
+fn rehearse(rt: &(impl Input + Print), text: &[u8]) -> usize
     ensures { Rehearsed text.now result }
 {
     let mut values = [0u32; layout::VALUES];
@@ -138,16 +148,16 @@ fn rehearse(text: &[u8]) -> usize
     let mut out = [0u8; ROOM];
     let prepared = rehearsal::prepare(text, &mut values, &mut state, &mut out);
     match prepared {
-        Prepared::Refused(size) => print_front(&out, size),
-        Prepared::Ready(count) => play(text, &mut state, &mut values[..count], &mut out),
+        Prepared::Refused(size) => print_front(rt, &out, size),
+        Prepared::Ready(count) => play(rt, text, &mut state, &mut values[..count], &mut out),
     }
 }
 
 // Reads the class text, as much of it as decides its verdict, and rehearses on it. Answers how many bytes were written out last.
-pub fn run() -> usize
+pub fn run(rt: &(impl Files + Input + Print)) -> usize
     ensures { Runs result }
 {
     let mut text = [0u8; TEXT];
-    let size = read_library(&mut text);
-    rehearse(&text[..size])
+    let size = read_library(rt, &mut text);
+    rehearse(rt, &text[..size])
 }

@@ -14,7 +14,7 @@ use std::path::PathBuf;
 pub fn archive() -> PathBuf {
     let folder = match std::env::var("CISHMOLAQ_ARCHIVE") {
         Ok(folder) => PathBuf::from(folder),
-        Err(_) => PathBuf::from(env!("CARGO_MANIFEST_DIR")).join("../../target/staticlib"),
+        Err(_) => PathBuf::from(env!("CARGO_MANIFEST_DIR")).join("../../crates/abi/out"),
     };
     folder.join("libabi.a")
 }

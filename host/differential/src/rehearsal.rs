@@ -12,11 +12,11 @@ use std::time::{Duration, Instant};
 
 const PATIENCE: Duration = Duration::from_secs(60);
 
-/// The program: `rt check rehearse` makes it. CISHMOLAQ_REHEARSE names another.
+/// The program: `rt ci` makes it, and so does `rt run` in crates/rehearse. CISHMOLAQ_REHEARSE names another.
 pub fn program() -> PathBuf {
-    let made = PathBuf::from(env!("CARGO_MANIFEST_DIR")).join("../../target/bin/rehearse");
+    let made = PathBuf::from(env!("CARGO_MANIFEST_DIR")).join("../../crates/rehearse/out/rehearse");
     let program = std::env::var_os("CISHMOLAQ_REHEARSE").map_or(made, PathBuf::from);
-    assert!(program.is_file(), "{} is missing: run `rt check rehearse` first", program.display());
+    assert!(program.is_file(), "{} is missing: run `rt run` in crates/rehearse first", program.display());
     program.canonicalize().unwrap()
 }
 

@@ -14,17 +14,30 @@ const TABLES: &str = "run shot WN ny\nrun plot NR yy\nlane shot WNW nyn\nlane pl
 /// It reads all of its input, as a program that is run by a script might.
 const RT: &str = r#"#!/bin/sh
 cat > /dev/null
-[ "$1" != "$FAILS" ] || { echo "rt: model NOT PROVED (exit 1, 2 s)"; echo "1 passed, 1 failed"; exit 1; }
+proved() {
+    echo "fn $1::one: $2"
+    echo "crate $1: modules loaded=0 checked=40"
+    echo "logic=$2 functions=1"
+}
 case $1 in
-check)
-    echo "rt: layout proved (unchanged since it was last proved)"
-    echo "rt: model proved (2 s)"
-    mkdir -p target/bin
-    cp "$PROGRAMS/$2" target/bin/
+run | lib)
+    [ "$1" != "$FAILS" ] || { proved model not-proved; exit 1; }
+    echo "only=0 proved=0"
+    proved layout proved
+    proved model proved
+    mkdir -p out
+    [ "$1" = lib ] || cp "$PROGRAMS/${PWD##*/}" out/
     ;;
 ci)
-    echo "rt: model proved (2 s)"
-    echo "rt: must-fail model/one: refused, as it must be (1 s)"
+    [ "$1" != "$FAILS" ] || { echo "rt: model NOT PROVED"; echo "1 passed, 1 failed"; exit 1; }
+    echo "logic=proved functions=1"
+    echo "rt: layout is kept: an earlier run on this machine proved the same files over the same libraries"
+    echo "rt: model proved"
+    echo "rt: model: trying its must-fail edits (1)"
+    echo "rt: must-fail model/one.edit: refused, as it must be: it is not proved"
+    bad=
+    [ "$FAILS" != bad ] || bad=", 1 bad"
+    echo "rt: ok; handles allowed: none; must-fail edits: 1 refused$bad; every proof and must-fail edit was done in this run"
     echo "2 passed, 0 failed"
     ;;
 esac
@@ -45,7 +58,7 @@ fn program(path: &Path, text: &str) {
 fn copy(name: &str) -> PathBuf {
     let copy = PathBuf::from(env!("CARGO_TARGET_TMPDIR")).join(name);
     let _ = fs::remove_dir_all(&copy);
-    for folder in ["host/scripts", "samples", "crates/model/must-fail", "tools", "temporary"] {
+    for folder in ["host/scripts", "samples", "crates/model/must-fail", "crates/tables", "crates/rehearse", "crates/abi", "tools", "temporary"] {
         fs::create_dir_all(copy.join(folder)).unwrap();
     }
     let files = ["crates.txt", "tables.sh", "rehearse.sh", "test.sh", "host/scripts/program.sh"];
@@ -90,12 +103,12 @@ fn tables() {
     let copy = copy("tables");
     let (printed, said, status) = run(&copy, &["tables.sh"], None, "");
     assert_eq!((printed.as_str(), status), (TABLES, Some(0)));
-    says(&said, &["tables.sh: proving and building tables: some minutes", "tables.sh: crate 2 of ", ": model proved (2 s)\n"]);
+    says(&said, &["tables.sh: proving and building tables: some minutes", "tables.sh: crate 2 of at most ", ": model proved\n"]);
     let (_, said, _) = run(&copy, &["tables.sh", "lanes.txt"], None, "");
     assert!(!said.contains("minutes"), "it is built: {said}");
     let (printed, _, status) = run(&copy, &["tables.sh", "tally.txt"], None, "");
     assert_eq!((printed.as_str(), status), ("lane tally A ynn\nlane plot R nyn\nlane clear W nnn\n", Some(0)));
-    let (printed, said, status) = run(&copy, &["tables.sh"], None, "check");
+    let (printed, said, status) = run(&copy, &["tables.sh"], None, "run");
     assert_eq!((printed.as_str(), status), ("", Some(1)));
     says(&said, &["NOT PROVED"]);
     let (printed, said, status) = run(&copy, &["tables.sh", "nowhere"], None, "");
@@ -157,11 +170,11 @@ fn call_lines_of_a_file() {
 fn help() {
     let copy = copy("help");
     for (script, first, most) in [("tables.sh", "Use: ./tables.sh [FILE]\n", 1), ("rehearse.sh", "Use: ./rehearse.sh [LIB [CALLS]]\n", 2)] {
-        let (printed, said, status) = run(&copy, &[script, "--help"], None, "check");
+        let (printed, said, status) = run(&copy, &[script, "--help"], None, "run");
         assert_eq!((said.as_str(), status), ("", Some(0)));
         assert!(printed.starts_with(first) && printed.contains("\nEnds with 0; ") && !printed.contains('#'), "{printed}");
         let words = [&[script][..], &vec!["lanes.txt"; most + 1]].concat();
-        let (nothing, said, status) = run(&copy, &words, None, "check");
+        let (nothing, said, status) = run(&copy, &words, None, "run");
         assert_eq!((nothing.as_str(), said, status), ("", printed, Some(2)));
     }
 }
@@ -176,7 +189,7 @@ fn rehearse() {
     }
     let (printed, said, _) = run(&copy, &["rehearse.sh", "lanes.txt"], None, "");
     assert_eq!(printed, "lane1 0 0 0\n");
-    says(&said, &["rehearse.sh: crate 2 of "]);
+    says(&said, &["rehearse.sh: crate 2 of at most "]);
     let (printed, _, status) = run(&copy, &["rehearse.sh"], None, "");
     assert_eq!(status, Some(0));
     says(&printed, &["samples/left-board.calls\nsend 0 lane1 shot 40    ok\n", "\n                        lane1 1 0 40\n"]);
@@ -192,10 +205,15 @@ fn test() {
     let (printed, said, status) = run(&copy, &["test.sh"], None, "");
     assert!(printed.ends_with("\ntested\n2 passed, 0 failed\n"), "{printed}");
     assert_eq!(status, Some(0));
-    says(&said, &["test.sh: 2 of 4: ", "test.sh: crate 1 of ", "test.sh: edit 1 of 1: model/one: refused", "test.sh: 4 of 4: "]);
+    says(&said, &["test.sh: 1 of 3: ", "test.sh: crate 2 of ", ": model proved\n", "test.sh: edit 1 of 1: model/one.edit: refused", "test.sh: 3 of 3: "]);
     let (printed, _, status) = run(&copy, &["test.sh"], None, "cargo");
     assert!(!printed.contains("passed") && status != Some(0), "{status:?}: {printed}");
     let (printed, _, status) = run(&copy, &["test.sh"], None, "ci");
     assert!(printed.ends_with("1 passed, 1 failed\n") && !printed.contains("tested"), "{printed}");
     assert_eq!(status, Some(1));
+    for fails in ["bad", "lib"] {
+        let (printed, _, status) = run(&copy, &["test.sh"], None, fails);
+        assert!(!printed.contains("passed") && !printed.contains("tested"), "{printed}");
+        assert_eq!(status, Some(1), "{fails}");
+    }
 }
