@@ -1,0 +1,22 @@
+use Prim.Native.Nat.{◌*◌, ◌-◌, ◌≤◌}
+use mathlib.Core.Path.{◌≡◌, refl, sym, ◌∙◌}
+use native.Mathlib.Omega.{arith}
+use lib.ListN.{length, drop}
+use Rattle.machine_words.specs.Calls.{lending}
+use Rattle.call_lines.specs.Lent.{on_lent}
+use Rattle.rehearsal.specs.Parts.{fed}
+use Rattle.rehearsal.specs.Feeds.{widest, reached, holding, held_after}
+use Rattle.rehearsal.specs.Laws.{fed_end, fed_turn, held_end, held_turn, held_least, past_turn}
+use Rattle.rehearsal.proofs.feed_all.Given as goal
+
+abbrev pub invariant-loop-i : goal.invariant-loop-i
+invariant-loop-i l =
+    (l.i ≤ length l.part) × (l.begun ≤ length l.initial.line) × (l.size ≤ widest * l.i)
+    × (length l.line ≡ length l.initial.line) × (length l.out ≡ length l.initial.out) × (length l.state ≡ length l.initial.state) × (length l.values ≡ length l.initial.values)
+    × (fed on_lent (length l.initial.line) (reached (lending l.text l.state l.values) l.line l.begun l.out l.size) (drop l.i l.part)
+    ≡ fed on_lent (length l.initial.line) (reached (lending l.text l.initial.state l.initial.values) l.initial.line l.kept l.initial.out 0) l.part)
+    × (held_after (holding l.line l.begun) (drop l.i l.part) ≡ held_after (holding l.initial.line l.kept) l.part) × (drop l.size l.out ≡ drop l.size l.initial.out)
+
+abbrev pub decreases-loop-i : goal.decreases-loop-i
+decreases-loop-i l =
+    length l.part - l.i
