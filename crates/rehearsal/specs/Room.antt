@@ -1,5 +1,5 @@
 -- How much room is enough for what a rehearsal writes at its start and at its end.
-use Rattle.std.specs.Prelude.{ℕ, zero, suc, ◌+◌, ◌*◌, ◌≤◌, ◌≡◌, List, [], ◌∷◌, ◌++◌, length, drop}
+use Rattle.std.specs.Prelude.{ℕ, zero, suc, ◌*◌, ◌≤◌, ◌≡◌, List, [], ◌∷◌, ◌++◌, length, drop}
 use Rattle.std.proofs.Common.{add-one, arith, ap, subst, length-append}
 use Rattle.std.proofs.Math.Path.{refl}
 use Rattle.model.specs.Base.{bytes, upto}

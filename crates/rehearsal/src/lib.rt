@@ -2,6 +2,7 @@
 // line is answered as its LF comes, and at the end the objects' lines are written. Whatever the parts, what is written in all is
 // what the definition prints for the whole input (specs/Whole.antt).
 #![tactic(auto)]
+
 ghost use Rattle.std.specs.Prelude.{◌+◌, ◌*◌, ◌≤◌, min, ◌≡◌, length, take};
 ghost use Rattle.layout.specs.Layout.{state_words, values_most};
 ghost use Rattle.model.specs.Rehearsal.{unended};

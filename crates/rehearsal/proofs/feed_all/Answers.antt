@@ -1,12 +1,8 @@
 -- At each turn what is left of the part leads where all of it leads from the start.
-use Prim.Native.Nat.{◌*◌, ◌-◌, ◌≤◌}
-use mathlib.Core.Path.{◌≡◌, refl, sym, ◌∙◌}
+use mathlib.Core.Path.{sym, ◌∙◌}
 use native.Mathlib.Omega.{arith}
-use lib.ListN.{length, drop}
-use Rattle.machine_words.specs.Calls.{lending}
-use Rattle.call_lines.specs.Lent.{on_lent}
-use Rattle.rehearsal.specs.Parts.{fed}
-use Rattle.rehearsal.specs.Feeds.{widest, reached, holding, held_after}
+use lib.ListN.{length}
+use Rattle.rehearsal.specs.Feeds.{holding}
 use Rattle.rehearsal.specs.Laws.{fed_end, fed_turn, held_end, held_turn, held_least, past_turn}
 use Rattle.rehearsal.proofs.feed_all.Goals as goal
 

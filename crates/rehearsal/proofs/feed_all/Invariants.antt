@@ -1,12 +1,10 @@
 use Prim.Native.Nat.{◌*◌, ◌-◌, ◌≤◌}
-use mathlib.Core.Path.{◌≡◌, refl, sym, ◌∙◌}
-use native.Mathlib.Omega.{arith}
+use mathlib.Core.Path.{◌≡◌}
 use lib.ListN.{length, drop}
 use Rattle.machine_words.specs.Calls.{lending}
 use Rattle.call_lines.specs.Lent.{on_lent}
 use Rattle.rehearsal.specs.Parts.{fed}
 use Rattle.rehearsal.specs.Feeds.{widest, reached, holding, held_after}
-use Rattle.rehearsal.specs.Laws.{fed_end, fed_turn, held_end, held_turn, held_least, past_turn}
 use Rattle.rehearsal.proofs.feed_all.Given as goal
 
 abbrev pub invariant-loop-i : goal.invariant-loop-i

@@ -1,10 +1,6 @@
 -- The line for an unfinished line is written first, then the objects' lines.
-use native.Mathlib.Omega.{arith}
-use lib.ListN.{take}
 use Rattle.machine_words.specs.Calls.{lending}
-use Rattle.rehearsal.specs.Room.{unended_few}
 use Rattle.rehearsal.specs.Laws.{finishes}
-use borrow.Author.Rules.{rules}
 use Rattle.rehearsal.proofs.finish.Goals as goal
 
 pub returns : goal.returns

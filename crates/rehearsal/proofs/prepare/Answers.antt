@@ -5,8 +5,7 @@ use lib.Seq.{length-take-le}
 use Rattle.machine_words.specs.Calls.{lending}
 use Rattle.cishmolaq.specs.Lines.{line_small}
 use Rattle.cishmolaq.specs.Laws.{refused_by, accepted_by}
-use Rattle.rehearsal.specs.Start.{values_few, prepares_refused, prepares_ready}
-use borrow.Author.Rules.{rules}
+use Rattle.rehearsal.specs.Start.{values_few, prepares_ready}
 use Rattle.rehearsal.proofs.prepare.Goals as goal
 
 pub overflow_cast-line : goal.overflow_cast-line

@@ -1,6 +1,5 @@
 -- Both entries are done, since the lists have the lengths that they ask for.
 use Rattle.rehearsal.specs.Start.{starts_on}
-use borrow.Author.Rules.{rules}
 use Rattle.rehearsal.proofs.start_on.Goals as goal
 
 pub returns : goal.returns

@@ -1,9 +1,6 @@
 -- An LF has the line answered, and any other byte is kept.
-use mathlib.Core.Path.{sym}
-use lib.Seq.{length-take-le}
 use Rattle.machine_words.specs.Calls.{lending}
-use Rattle.rehearsal.specs.Laws.{on_lf, on_other}
-use borrow.Author.Rules.{rules}
+use Rattle.rehearsal.specs.Laws.{on_lf}
 use Rattle.rehearsal.proofs.take_byte.Goals as goal
 
 pub returns-then-byte-eq-LINE_FEED : goal.returns-then-byte-eq-LINE_FEED
