@@ -3,6 +3,7 @@
 
 use reference::rehearsal::rehearsed;
 use std::fs;
+use std::ops::Deref;
 use std::os::unix::fs::PermissionsExt;
 use std::path::{Path, PathBuf};
 use std::process::{Command, Output, Stdio};
@@ -54,10 +55,27 @@ fn program(path: &Path, text: &str) {
     fs::set_permissions(path, fs::Permissions::from_mode(0o755)).unwrap();
 }
 
+/// A folder outside the repository, since rt takes each crates.txt in it for one of its own. It goes with its value.
+struct Folder(PathBuf);
+
+impl Deref for Folder {
+    type Target = Path;
+
+    fn deref(&self) -> &Path {
+        &self.0
+    }
+}
+
+impl Drop for Folder {
+    fn drop(&mut self) {
+        let _ = fs::remove_dir_all(&self.0);
+    }
+}
+
 /// A copy of what the scripts need, under a name that no other test has.
-fn copy(name: &str) -> PathBuf {
-    let copy = PathBuf::from(env!("CARGO_TARGET_TMPDIR")).join(name);
-    let _ = fs::remove_dir_all(&copy);
+fn copy(name: &str) -> Folder {
+    let copy = Folder(std::env::temp_dir().join(format!("cishmolaq-{name}-{}", std::process::id())));
+    let _ = fs::remove_dir_all(&*copy);
     for folder in ["host/scripts", "samples", "crates/model/must-fail", "crates/tables", "crates/rehearse", "crates/abi", "tools", "temporary"] {
         fs::create_dir_all(copy.join(folder)).unwrap();
     }
