@@ -428,7 +428,6 @@ class Proof:
         if not self.invariants:
             return None
         out = []
-        helpers = {}
         for kind, what, tie, body, comment in self.invariants:
             # which loop
             old = re.sub(r"^(invariant|decreases)-", "", tie)
@@ -443,7 +442,6 @@ class Proof:
                 self.warn.append(f"invariant {what} has another form")
                 continue
             binders = m[1].split()
-            fresh = [(v, f"l.{v}") for v in names]
             want = [(f"l.initial.{v}" if c else f"l.{v}") for v, c in zip(names, changed)] + [f"l.{v}" for v, c in zip(names, changed) if c]
             if len(want) < len(binders):
                 # a binder that the new form has not, and that the text does not use
