@@ -1,5 +1,6 @@
 -- From what the machine's entries ensure to what the C functions return; and that no refusal is returned as anything else.
-use Rattle.std.specs.Prelude.{ℕ, ◌≤◌, ◌≡◌, refl, Bool, true, false, ◌||◌, List, [], ◌∷◌, length, ltb, eqb}
+use Rattle.refusals.specs.declared.Refusal.{Refusal}
+use Rattle.std.specs.Prelude.{Err, ℕ, ◌≤◌, ◌≡◌, refl, Bool, true, false, ◌||◌, List, [], ◌∷◌, length, ltb, eqb}
 use Rattle.std.proofs.Common.{arith, sym, ap, subst, ◌∙◌, eq-eqb, ne_eqb, le-ltb, eqb-true}
 use Rattle.std.proofs.lemmas.Bool.{false≢true}
 use Rattle.layout.specs.Layout.{state_words}
@@ -8,11 +9,8 @@ use Rattle.model.specs.Service.{call_number, call_detail}
 use Rattle.model.specs.Machine.{Call, send, to, Target, object, class, domain, start_answer, step, commit, abort}
 use Rattle.catalog.specs.View.{object_count}
 use Rattle.machine_words.specs.Calls.{Lent, tables_of, refused, sent_by}
-use Rattle.machine_words.specs.declared.Outcome.{Outcome}
-use Rattle.machine_words.specs.declared.Outcome.TheVariants.{Refused}
-use Rattle.machine_words.specs.Said.{told}
-use Rattle.cishmolaq.specs.declared.Answer as Start
-use Rattle.cishmolaq.specs.Answers.{StartLeaves, Begins}
+use Rattle.machine_words.specs.Said.{CallResult, told}
+use Rattle.cishmolaq.specs.Answers.{Done, StartLeaves, Begins}
 use Rattle.cishmolaq.specs.Keeps.{refusals_of, others_of, is_among, Among, Numbered}
 use Rattle.cishmolaq.specs.Promises.{Does}
 use Rattle.abi.specs.Calls.{target_of, Called}
@@ -21,20 +19,20 @@ use Rattle.laws.specs.Basics.{All}
 -- ---- start
 
 -- What is left is what the returned answer leaves.
-pub start_leaves : {x y : Lent} {r : Start.Answer} → Begins x r y → StartLeaves x (start_answer state_words x.text (length x.values) (length x.words)) y
+pub start_leaves : {x y : Lent} {r : Done} → Begins x r y → StartLeaves x (start_answer state_words x.text (length x.values) (length x.words)) y
 start_leaves {x} {y} h = subst (λ (t : Told). StartLeaves x t y) h.says h.leaves
 
 -- ---- a call
 
 -- The outcome of an entry, as it is returned.
-pub tells_call : {x y : Lent} {c : Call} {outcome : Outcome} {r detail : ℕ} → Does x c outcome y
+pub tells_call : {x y : Lent} {c : Call} {outcome : CallResult} {r detail : ℕ} → Does x c outcome y
     → r ≡ call_number (told outcome) → detail ≡ call_detail (told outcome) → Called x c r detail y
 tells_call {outcome = outcome} h n d = record { outcome = outcome; does = h; number = n; beside = d }
 
 -- ---- a target by its kind
 
 -- A send to a target is a send to the target that a kind and a number name.
-pub sent_to : {x y : Lent} {s k a : ℕ} {t u : Target} {r : Outcome} → Does x (send s (to t k a)) r y → t ≡ u → Does x (send s (to u k a)) r y
+pub sent_to : {x y : Lent} {s k a : ℕ} {t u : Target} {r : CallResult} → Does x (send s (to t k a)) r y → t ≡ u → Does x (send s (to u k a)) r y
 sent_to {x} {y} {s} {k} {a} {r = r} h e = subst (λ (t : Target). Does x (send s (to t k a)) r y) e h
 
 module _ (kind n : ℕ) where
@@ -61,9 +59,9 @@ module _ (kind n : ℕ) where
 -- ---- numbers
 
 -- A refusal's number is one of the call's refusals ..
-pub refused_number : {x y : Lent} {c : Call} {r detail : ℕ} (h : Called x c r detail y) → (n : ℕ) → h.outcome ≡ Refused n → Among (refusals_of c) r
+pub refused_number : {x y : Lent} {c : Call} {r detail : ℕ} (h : Called x c r detail y) → (e : Refusal) → h.outcome ≡ Err e → Among (refusals_of c) r
 refused_number {c = c} h n e =
-    subst (Among (refusals_of c)) (sym (h.number ∙ ap (λ (o : Outcome). call_number (told o)) e)) (subst (λ (o : Outcome). Numbered c (told o)) e h.does.number)
+    subst (Among (refusals_of c)) (sym (h.number ∙ ap (λ (o : CallResult). call_number (told o)) e)) (subst (λ (o : CallResult). Numbered c (told o)) e h.does.number)
 
 -- What holds of every number of a list holds of one that is among them.
 among_all : (P : ℕ → Type 0) (n : ℕ) (ns : List ℕ) → All P ns → Among ns n → P n

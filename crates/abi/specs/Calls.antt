@@ -3,8 +3,7 @@ use Rattle.std.specs.Prelude.{ℕ, ◌≡◌, cond, eqb}
 use Rattle.model.specs.Machine.{Call, Target, object, class, domain}
 use Rattle.model.specs.Service.{call_number, call_detail}
 use Rattle.machine_words.specs.Calls.{Lent}
-use Rattle.machine_words.specs.declared.Outcome.{Outcome}
-use Rattle.machine_words.specs.Said.{told}
+use Rattle.machine_words.specs.Said.{CallResult, told}
 use Rattle.cishmolaq.specs.Promises.{Does}
 
 -- "one target: an object; a class's own objects; or a class's domain", by a kind and a number. Objects are numbered from 0
@@ -15,7 +14,7 @@ target_of kind n = cond (eqb kind 0) (object n) (cond (eqb kind 1) (class n) (co
 -- A call on what is lent: an outcome that keeps all that the entry promises, as a number and a detail. No refusal is returned as 0, 1,
 -- 2, 40 or 41 (`CallLaws.refused-apart`).
 pub record Called (x : Lent) (c : Call) (r detail : ℕ) (y : Lent) : Type 0 where
-  pub outcome : Outcome
+  pub outcome : CallResult
   pub does : Does x c outcome y
   pub number : r ≡ call_number (told outcome)
   pub beside : detail ≡ call_detail (told outcome)

@@ -1,5 +1,5 @@
 -- From what the entries ensure to what the C functions return; and that no refusal is returned as 0.
-use Rattle.std.specs.Prelude.{ℕ, zero, suc, ◌+◌, ◌≡◌, refl, Bool, true, false, cond, List, [], ◌∷◌, length, ltb}
+use Rattle.std.specs.Prelude.{Ok, Err, ℕ, zero, suc, ◌+◌, ◌≡◌, refl, Bool, true, false, cond, List, [], ◌∷◌, length, ltb}
 use Rattle.std.proofs.Common.{sym, ap, subst, ◌∙◌}
 use Rattle.std.proofs.Math.Option.{Option, none, some}
 use Rattle.model.specs.Text.{lines_and_rest}
@@ -9,8 +9,9 @@ use Rattle.model.specs.Fault.{fault_of}
 use Rattle.model.specs.Read.{Reading, accepted, refused, unless, judged, or_judged, read_pieces, read}
 use Rattle.model.specs.Told.{Told, done, refusal, number_of, detail_of, or_fault, check_answer}
 use Rattle.reader.specs.Verdicts as Verdicts
-use Rattle.reader.specs.declared.Verdict.{Verdict}
-use Rattle.reader.specs.declared.Verdict.TheVariants.{Accepted, Refused}
+use Rattle.refusals.specs.Numbers.{fault_number}
+use Rattle.reader.specs.Verdicts.{Verdict}
+use Rattle.reader.specs.declared.Refused.{Refused}
 use Rattle.cishmolaq.specs.Answers.{Kept}
 use Rattle.abi.specs.Numbers.{Tells, Writes}
 
@@ -40,11 +41,11 @@ module _ {text : List ℕ} {verdict : Verdict} (h : Verdicts.Checks text verdict
   tells_verdict : (t : Told) → t ≡ told_of (Verdicts.refusal verdict) → r ≡ number_of t → detail ≡ detail_of t → Tells (check_answer text) r detail
   tells_verdict t e p q = tells_as (record { number = p; beside = q }) (e ∙ check_told h)
 
-  pub tells_accepted : verdict ≡ Accepted → r ≡ 0 → detail ≡ 0 → Tells (check_answer text) r detail
+  pub tells_accepted : {x : Unit {0}} → verdict ≡ Ok x → r ≡ 0 → detail ≡ 0 → Tells (check_answer text) r detail
   tells_accepted e = tells_verdict (done 0) (ap (λ (v : Verdict). told_of (Verdicts.refusal v)) (sym e))
 
-  pub tells_refused : (number line : ℕ) → verdict ≡ Refused number line → r ≡ number → detail ≡ line → Tells (check_answer text) r detail
-  tells_refused number line e = tells_verdict (refusal number line) (ap (λ (v : Verdict). told_of (Verdicts.refusal v)) (sym e))
+  pub tells_refused : (e : Refused) → verdict ≡ Err e → r ≡ fault_number e.fault → detail ≡ e.line → Tells (check_answer text) r detail
+  tells_refused e q = tells_verdict (refusal (fault_number e.fault) e.line) (ap (λ (v : Verdict). told_of (Verdicts.refusal v)) (sym q))
 
 -- ---- no refusal is returned as 0
 

@@ -11,16 +11,16 @@ ghost use Rattle.model.specs.Service.{send, step, commit, abort, call_number, ca
 ghost use Rattle.model.specs.Machine.{to, start_answer};
 ghost use Rattle.machine_words.specs.Calls.{lending};
 ghost use Rattle.machine_words.specs.Said.{told, aimed};
-ghost use Rattle.cishmolaq.specs.Answers.{said, StartLeaves};
+ghost use Rattle.cishmolaq.specs.Answers.{said, said_done, StartLeaves};
 ghost use Rattle.abi.specs.Numbers.{Tells, Writes, HandsBack};
 ghost use Rattle.abi.specs.Calls.{target_of, Called};
 
-use cishmolaq::Answer;
+use cishmolaq::Error;
 use machine_words::{Outcome, Target};
-use reader::Verdict;
+use refusals::Refusal;
 
 // Stores what goes with a number in the lent place, and returns the number.
-fn told(number: u32, with: usize, detail: &mut usize) -> u32
+fn told<T: Copy>(number: u32, with: T, detail: &mut T) -> u32
     ensures value { result ≡ number }
     ensures detail_after { detail.new ≡ with }
 {
@@ -29,13 +29,20 @@ fn told(number: u32, with: usize, detail: &mut usize) -> u32
 }
 
 // Returns the number of an answer, and stores its length or line in the lent place.
-fn tell(answer: Answer, detail: &mut usize) -> u32
+fn tell(answer: Result<usize, Error>, detail: &mut usize) -> u32
     ensures { Tells (said answer) result detail.new }
 {
     match answer {
-        Answer::Done(length) => told(0, length, detail),
-        Answer::Refused(number, line) => told(number, line, detail),
+        Ok(length) => told(0, length, detail),
+        Err(error) => told(error.number(), error.line(), detail),
     }
+}
+
+// The same for an answer with no length.
+fn tell_done(answer: Result<(), Error>, line: &mut usize) -> u32
+    ensures { Tells (said_done answer) result line.new }
+{
+    tell(answer.map(|_| 0), line)
 }
 
 // The verdict on a text: 0, or the number of its fault with its line.
@@ -43,10 +50,9 @@ fn tell(answer: Answer, detail: &mut usize) -> u32
 pub extern "C" fn cishmolaq_check(text: &[u8], line: &mut usize) -> u32
     ensures { Tells (check_answer text.now) result line.new }
 {
-    let verdict = cishmolaq::check(text);
-    match verdict {
-        Verdict::Accepted => told(0, 0, line),
-        Verdict::Refused(number, at) => told(number, at, line),
+    match cishmolaq::check(text) {
+        Ok(()) => told(0, 0, line),
+        Err(refused) => told(refused.fault.number(), refused.line, line),
     }
 }
 
@@ -76,7 +82,7 @@ pub extern "C" fn cishmolaq_statement_fault(text: &[u8], count: u32, line: &mut 
     ensures { Tells (statement_answer text.now count) result line.new }
 {
     let found = cishmolaq::statement_fault(text, count);
-    tell(found, line)
+    tell_done(found, line)
 }
 
 // Writes the text's starting values: 0, or a number with its line.
@@ -90,7 +96,7 @@ pub extern "C" fn cishmolaq_starting_values(
         result line.new values.new }
 {
     let written = cishmolaq::starting_values(text, values);
-    tell(written, line)
+    tell_done(written, line)
 }
 
 // Writes what `tables` prints for the text: 0 with its length, or 21.
@@ -116,30 +122,21 @@ pub extern "C" fn cishmolaq_start(
         (start_answer state_words text.now (length values.now) (length state.old)) (lending text.now state.new values.now) }
 {
     let started = cishmolaq::start(text, values, state);
-    tell(started, line)
-}
-
-// Stores what goes with a call's number in the lent place, and returns the number.
-fn told_with(number: u32, with: u32, detail: &mut u32) -> u32
-    ensures value { result ≡ number }
-    ensures detail_after { detail.new ≡ with }
-{
-    *detail = with;
-    number
+    tell_done(started, line)
 }
 
 // Returns the number of a call's outcome, and stores the message's answer or the slot in the lent place.
-fn tell_call(outcome: Outcome, detail: &mut u32) -> u32
+fn tell_call(outcome: Result<Outcome, Refusal>, detail: &mut u32) -> u32
     ensures value { result ≡ call_number (told outcome) }
     ensures detail_after { detail.new ≡ call_detail (told outcome) }
 {
     match outcome {
-        Outcome::Done => told_with(0, 0, detail),
-        Outcome::Going => told_with(1, 0, detail),
-        Outcome::Answer(value) => told_with(2, value, detail),
-        Outcome::Refused(number) => told_with(number, 0, detail),
-        Outcome::Held(slot) => told_with(40, slot, detail),
-        Outcome::Stopped => told_with(41, 0, detail),
+        Ok(Outcome::Done) => told(0, 0, detail),
+        Ok(Outcome::Going) => told(1, 0, detail),
+        Ok(Outcome::Answer(value)) => told(2, value, detail),
+        Ok(Outcome::Held(slot)) => told(40, slot, detail),
+        Ok(Outcome::Stopped) => told(41, 0, detail),
+        Err(refusal) => told(refusal.number(), 0, detail),
     }
 }
 

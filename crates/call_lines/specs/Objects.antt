@@ -1,9 +1,9 @@
 -- The lines of the objects as loops over objects and values write them.
-use Rattle.std.specs.Prelude.{ℕ, ◌+◌, ◌*◌, ◌/◌, ◌%◌, ◌≤◌, ◌<◌, ◌≡◌, refl, length, get_or, take}
+use Rattle.std.specs.Prelude.{ℕ, ◌+◌, ◌*◌, ◌/◌, ◌%◌, ◌≤◌, ◌≡◌, refl, length, take}
 use Rattle.std.proofs.Math.Numerals.{add-one}
 use native.Mathlib.Omega.{arith}
 use Rattle.std.proofs.Math.Path.{sym, ap}
-use Rattle.std.proofs.Common.{◌∙◌, length-append, length-take, take-suc, take_all, drop-drop}
+use Rattle.std.proofs.Common.{◌∙◌, length-append, length-take, drop-drop}
 use mathlib.Core.List.{List, [], ◌∷◌, ◌++◌, flat_map, append_assoc, append-nil}
 use Rattle.std.proofs.Math.ListN.{drop}
 use Rattle.layout.specs.Layout.{object_name_at, object_class_at}
@@ -27,14 +27,9 @@ values_append [] ys = refl
 values_append (x ∷ xs) ys = ap (λ (l : List ℕ). value_printed x ++ l) (values_append xs ys) ∙ sym (append_assoc (value_printed x) (flat_map value_printed xs) (flat_map value_printed ys))
 
 -- One value more.
-pub values_more : (vs : List ℕ) (i : ℕ) → i < length vs → flat_map value_printed (take (i + 1) vs) ≡ flat_map value_printed (take i vs) ++ value_printed (get_or vs i 0)
+pub values_push : (vs : List ℕ) (v : ℕ) → flat_map value_printed (vs ++ (v ∷ [])) ≡ flat_map value_printed vs ++ value_printed v
 unfolding flat_map
-values_more vs i h =
-    rw (add-one, take-suc vs i 0 h) (values_append (take i vs) (get_or vs i 0 ∷ []) ∙ ap (λ (l : List ℕ). flat_map value_printed (take i vs) ++ l) (append-nil (value_printed (get_or vs i 0))))
-
--- No value is left after i.
-pub values_all : (vs : List ℕ) (i n : ℕ) → length vs ≤ i → i ≤ n → flat_map value_printed (take i vs) ≡ flat_map value_printed (take n vs)
-values_all vs i n h k = ap (flat_map value_printed) (take_all i vs h ∙ sym (take_all n vs (omega arith)))
+values_push vs v = values_append vs (v ∷ []) ∙ ap (λ (l : List ℕ). flat_map value_printed vs ++ l) (append-nil (value_printed v))
 
 values_few : (vs : List ℕ) → length (flat_map value_printed vs) ≤ 11 * length vs
 unfolding flat_map

@@ -16,8 +16,6 @@ ghost use Rattle.call_lines.specs.Lent.{lent_reply, lent_last};
 ghost use Rattle.call_lines.specs.Says.{Says};
 ghost use Rattle.call_lines.specs.Forms.{send_after};
 
-use text_lex::Number;
-
 // Makes the call of a line that is a keyword and a slot, and writes its answer.
 fn slot_call(
     text: &[u8],
@@ -64,16 +62,17 @@ fn send_call(
     ensures { Says (lent_reply (lending text.now state.old values.now) (send_form keyword.now slot name.now method.now argument))
         out.old at result (lending text.now state.new values.now) out.new }
 {
-    if text_lex::same(keyword, b"send") {
-        return answer::send_to_object(text, state, values, slot, name, method, argument, out, at);
+    match name::receiver_named(text, state, keyword, name) {
+        Some(receiver) => {
+            let place = name::method_named(text, state, receiver.class, method);
+            let target = receiver.target;
+            let outcome = machine_calls::send::send(
+                text, state, values, slot, target, place, argument,
+            );
+            answer::put_outcome(out, at, outcome)
+        }
+        None => output::put_bytes(out, at, b"51\n"),
     }
-    if text_lex::same(keyword, b"all") {
-        return answer::send_to_class(text, state, values, slot, name, method, argument, out, at);
-    }
-    if text_lex::same(keyword, b"tree") {
-        return answer::send_to_domain(text, state, values, slot, name, method, argument, out, at);
-    }
-    output::put_bytes(out, at, b"51\n")
 }
 
 // Reads the words after the slot of a line, which ends at `from`: a name, a method and an argument. Makes the send, and writes its
@@ -99,17 +98,15 @@ fn send_line(
     let method_end = text_lex::word_end_after(line, name_end);
     let number = text_lex::number_of(text_lex::word_after(line, method_end));
     let end = text_lex::word_end_after(line, method_end);
-    match number {
-        Number::Value(argument) => {
-            if text_lex::is_name(name) & text_lex::is_name(method) & (line.len() <= end) {
-                send_call(
-                    text, state, values, keyword, slot, name, method, argument, out, at,
-                )
-            } else {
-                output::put_bytes(out, at, b"51\n")
-            }
-        }
-        Number::NoNumber => output::put_bytes(out, at, b"51\n"),
+    let Some(argument) = number else {
+        return output::put_bytes(out, at, b"51\n");
+    };
+    if text_lex::is_name(name) & text_lex::is_name(method) & (line.len() <= end) {
+        send_call(
+            text, state, values, keyword, slot, name, method, argument, out, at,
+        )
+    } else {
+        output::put_bytes(out, at, b"51\n")
     }
 }
 
@@ -129,16 +126,14 @@ pub fn answer_line(
     let keyword_end = text_lex::word_end(line, 0);
     let keyword = &line[..keyword_end];
     let number = text_lex::number_of(text_lex::word_after(line, keyword_end));
-    match number {
-        Number::Value(slot) => {
-            let slot_end = text_lex::word_end_after(line, keyword_end);
-            if line.len() <= slot_end {
-                slot_call(text, state, values, keyword, slot, out, at)
-            } else {
-                send_line(text, state, values, line, keyword, slot, slot_end, out, at)
-            }
-        }
-        Number::NoNumber => output::put_bytes(out, at, b"51\n"),
+    let Some(slot) = number else {
+        return output::put_bytes(out, at, b"51\n");
+    };
+    let slot_end = text_lex::word_end_after(line, keyword_end);
+    if line.len() <= slot_end {
+        slot_call(text, state, values, keyword, slot, out, at)
+    } else {
+        send_line(text, state, values, line, keyword, slot, slot_end, out, at)
     }
 }
 

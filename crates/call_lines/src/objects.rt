@@ -12,14 +12,9 @@ fn put_values(values: &[u32], base: usize, count: usize, out: &mut [u8], at: usi
     ensures { Appended (flat_map value_printed (take count (drop base values.now))) out.old at result out.new }
 {
     let mut end = at;
-    let mut i = 0;
-    while i < count {
-        if values.len() <= base + i {
-            return end;
-        }
+    for value in values.iter().skip(base).take(count) {
         end = output::put_byte(out, end, b' ');
-        end = output::put_digits(out, end, 10, values[base + i]);
-        i += 1;
+        end = output::put_digits(out, end, 10, *value);
     }
     end
 }
@@ -38,7 +33,7 @@ fn put_line(
     ensures { Appended (object_printed text.now tables.now object (drop base values.now)) out.old at result out.new }
 {
     let word = catalog::object_word(tables, object, layout::OBJECT_NAME_AT);
-    let count = catalog::shown_count(tables, catalog::class_of(tables, object), 0);
+    let count = catalog::shown_count(tables, catalog::class_of(tables, object), layout::FIELDS);
     let end = output::put_bytes(out, at, catalog::name_of(text, word));
     let end = put_values(values, base, count as usize, out, end);
     output::put_byte(out, end, b'\n')
@@ -58,11 +53,13 @@ pub(crate) fn put_lines(
     let objects = catalog::object_count(tables);
     let mut end = at;
     let mut base = 0;
-    let mut object = 0;
-    while object < objects {
+    for object in 0..objects {
         end = put_line(text, tables, values, object, base, out, end);
-        base += catalog::shown_count(tables, catalog::class_of(tables, object), 0) as usize;
-        object += 1;
+        base += catalog::shown_count(
+            tables,
+            catalog::class_of(tables, object),
+            layout::FIELDS,
+        ) as usize;
     }
     end
 }

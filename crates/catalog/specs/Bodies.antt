@@ -14,8 +14,9 @@ use Rattle.model.specs.Library.{Member, Class, no_member, class_at, member, memb
 use Rattle.catalog.specs.View.{name_of, class_word, class_count, member_count, member_at, members_of, class_of, library_of}
 use Rattle.laws.specs.Upto.{get_d_upto}
 use Rattle.catalog.specs.Look.{shown_count, class_count_law, class_at_law, class_past, member_count_law, among_place}
-use Rattle.catalog.specs.declared.body.Body.{Body}
-use Rattle.catalog.specs.declared.body.Body.TheVariants.{Found, Missing}
+use Rattle.std.specs.Prelude as rust
+use Rattle.std.specs.Prelude.{Some, None}
+use Rattle.catalog.specs.declared.body.Statements.{Statements}
 
 -- The member of that name, or none.
 abbrev pub found : List Member → Name → Option Member
@@ -46,12 +47,12 @@ pub record Bounds (m : Member) (first end : ℕ) : Type 0 where
   pub end_is : end ≡ m.first + m.count
 
 -- The answer for a body that may be missing.
-abbrev pub bounds_of : Option Member → Body
-bounds_of none = Missing
-bounds_of (some m) = Found m.first (m.first + m.count)
+abbrev pub bounds_of : Option Member → rust.Option Statements
+bounds_of none = None
+bounds_of (some m) = Some (record { first = m.first; end = m.first + m.count })
 
-bounds_found : (m : Member) (first end : ℕ) → Bounds m first end → Found first end ≡ bounds_of (some m)
-bounds_found m first end b = λ i. Found (b.first_is i) (b.end_is i)
+bounds_found : (m : Member) (s : Statements) → Bounds m s.first s.end → Some s ≡ bounds_of (some m)
+bounds_found m s b = λ i. Some (record { first = b.first_is i; end = b.end_is i })
 
 -- The class that defines the method at place j of class k; the number of classes where there is no method there.
 unfoldable pub origin_at : List ℕ → ℕ → ℕ → ℕ
@@ -140,12 +141,39 @@ module _ (text tables : List ℕ) (c k : ℕ) (n : Name) (i : ℕ) (f : i ≡ me
   body_by m e = ap (λ (d : ℕ). found (class_at (library_of text tables) d).methods n) (sym o) ∙ e
 
   module _ (j : ℕ) (e : j ≡ member_place (members_of text tables k 1) n) where
-    pub body_there : (first end : ℕ) → Bounds (member_at text tables k 1 j) first end → j < shown_count tables k 1 → Found first end ≡ bounds_of (body_in text tables c n)
-    body_there first end b h =
-        bounds_found (member_at text tables k 1 j) first end b ∙ sym (ap bounds_of (body_by (some (member_at text tables k 1 j)) (found_there text tables k n j e h)))
+    pub body_there : (s : Statements) → Bounds (member_at text tables k 1 j) s.first s.end → j < shown_count tables k 1 → Some s ≡ bounds_of (body_in text tables c n)
+    body_there s b h =
+        bounds_found (member_at text tables k 1 j) s b ∙ sym (ap bounds_of (body_by (some (member_at text tables k 1 j)) (found_there text tables k n j e h)))
 
-    pub body_none : shown_count tables k 1 ≤ j → Missing ≡ bounds_of (body_in text tables c n)
+    pub body_none : shown_count tables k 1 ≤ j → None ≡ bounds_of (body_in text tables c n)
     body_none h = sym (ap bounds_of (body_by none (found_none text tables k n j e h)))
+
+-- The class has no method of that name, or the class that defines it shows none.
+module _ (text tables : List ℕ) (c : ℕ) (n : Name) where
+  shown_le : (k : ℕ) → shown_count tables k 1 ≤ member_count tables k 1
+  unfolding shown_count
+  shown_le k = go (ltb k (class_count tables))
+    where
+      go : (t : Bool) → cond t (member_count tables k 1) 0 ≤ member_count tables k 1
+      go true = omega arith
+      go false = omega arith
+
+  past_none : shown_count tables (class_count tables) 1 ≡ 0
+  unfolding shown_count
+  past_none = rw (le-ltb (class_count tables) (class_count tables) (omega arith))
+
+  pub body_missing : member_count tables c 1 ≤ member_place (members_of text tables c 1) n → None ≡ bounds_of (body_in text tables c n)
+  unfolding origin_at
+  body_missing h =
+      let i = member_place (members_of text tables c 1) n in
+      let k = class_count tables in
+      let a : k ≡ origin_at tables c i = rw (le-ltb i (shown_count tables c 1) (omega (arith, shown_le c))) in
+      body_none text tables c k n i refl a (member_place (members_of text tables k 1) n) refl (omega (arith, past_none))
+
+  pub body_missing_in : (i : ℕ) → i ≡ member_place (members_of text tables c 1) n → (k : ℕ) → k ≡ origin_at tables c i
+      → member_count tables k 1 ≤ member_place (members_of text tables k 1) n → None ≡ bounds_of (body_in text tables c n)
+  body_missing_in i f k a h =
+      body_none text tables c k n i f a (member_place (members_of text tables k 1) n) refl (omega (arith, shown_le k))
 
 -- The word of a method's body.
 pub word_bounds : (text tables : List ℕ) (k j w : ℕ) → w ≡ class_word tables k (bodies_at + (1 * kind_words + j)) → Bounds (member_at text tables k 1 j) (w / 64) (w / 64 + w % 64)
@@ -176,10 +204,10 @@ module _ (tables : List ℕ) (c k w n : ℕ) (m : n ≡ shown_count tables c 1) 
 
 -- The method by its place, or by its name.
 module _ (text tables : List ℕ) (c k w : ℕ) (t : Bool) (e : t ≡ named_at tables c k w) where
-  pub by_place : t ≡ true → (first end : ℕ) → Bounds (member_at text tables c 1 k) first end → Found first end ≡ bounds_of (body_at text tables c k w)
+  pub by_place : t ≡ true → (s : Statements) → Bounds (member_at text tables c 1 k) s.first s.end → Some s ≡ bounds_of (body_at text tables c k w)
   unfolding body_at
-  by_place h first end b = rw (← e, h) (bounds_found (member_at text tables c 1 k) first end b)
+  by_place h s b = rw (← e, h) (bounds_found (member_at text tables c 1 k) s b)
 
-  pub by_name : t ≡ false → (name : Name) → name ≡ name_of text w → (r : Body) → r ≡ bounds_of (body_in text tables c name) → r ≡ bounds_of (body_at text tables c k w)
+  pub by_name : t ≡ false → (name : Name) → name ≡ name_of text w → (r : rust.Option Statements) → r ≡ bounds_of (body_in text tables c name) → r ≡ bounds_of (body_at text tables c k w)
   unfolding body_at
   by_name h name n r b = rw (← e, h, ← n) b

@@ -1,7 +1,7 @@
 -- Look-ups in the library that the tables represent: how long its lists are, what stands at a number, and that a name is known
 -- exactly if its place is before the end.
 use Prim.Native.Nat.{ℕ, zero, suc, ◌+◌, ◌*◌, ◌≤◌, ◌<◌}
-use Rattle.std.specs.Prelude.{◌≡◌, List, [], length, get_or}
+use Rattle.std.specs.Prelude.{◌≡◌, Option, Some, None, MatchOption, unwrap_or, List, [], length, get_or}
 use Rattle.std.proofs.Math.Path.{refl, ap}
 use Rattle.std.proofs.Common.{◌∙◌}
 use Rattle.std.proofs.Math.Bool.{Bool, true, false, cond}
@@ -26,6 +26,10 @@ shown_count ws k p = cond (ltb k (class_count ws)) (member_count ws k p) 0
 unfoldable pub first_named : List ℕ → List ℕ → ℕ → ℕ → ℕ → Name → ℕ
 unfolding first_at upto name_of same
 first_named text ws from step n name = first_at (λ w. same (name_of text w) name) (upto (λ i. get_or ws (from + i * step) 0) n)
+
+-- A search among n things found the place p, which is n or more where there is none.
+abbrev pub Found : Option ℕ → ℕ → ℕ → Type 0
+Found r p n = MatchOption r (n ≤ p) (λ x. (x ≡ p) × (x < n))
 
 -- The fields of a class, or its methods.
 abbrev pub part : ℕ → Class → List Member
@@ -145,3 +149,14 @@ module _ (ws : List ℕ) (c p : ℕ) where
       go : (t : Bool) → ltb c (class_count ws) ≡ t → j < cond t (member_count ws c p) 0 → c < class_count ws
       go true e h = ltb-true c (class_count ws) e
       go false e h = absurd (omega arith)
+
+-- Where the place found is not needed apart from n.
+pub found_or : (r : Option ℕ) (p n : ℕ) → Found r p n → p ≤ n → unwrap_or r n ≡ p
+found_or (Some x) p n h l = h.0
+found_or None p n h l = omega arith
+
+pub first_named_le : (text ws : List ℕ) (from step n : ℕ) (name : Name) → first_named text ws from step n name ≤ n
+unfolding first_named
+first_named_le text ws from step n name =
+    let word : ℕ → ℕ = λ i. get_or ws (from + i * step) 0 in
+    omega (arith, first_within (λ w. same (name_of text w) name) (upto word n), length_upto word n)

@@ -1,21 +1,15 @@
 // Look-up of the body that a class runs for a method.
-ghost use Rattle.std.specs.Prelude.{ℕ, ◌≡◌, List};
+ghost use Rattle.std.specs.Prelude.{ℕ, ◌≡◌, List, Some};
 ghost use Rattle.model.specs.Library.{member_place};
-ghost use Rattle.catalog.specs.View.{member_at, members_of};
+ghost use Rattle.catalog.specs.View.{member_count, member_at, members_of};
+ghost use Rattle.catalog.specs.Look.{Found};
 ghost use Rattle.catalog.specs.Bodies.{body_in, named_at, body_at, Bounds, bounds_of, origin_at};
 
 // The statements of a body: its first, and the one past its last.
-#[derive(Drop)]
+#[derive(Clone, Copy)]
 pub struct Statements {
     pub first: u32,
     pub end: u32,
-}
-
-// The result of a look-up: a body's first statement and the one past its last, or none.
-#[derive(Drop)]
-pub enum Body {
-    Found(u32, u32),
-    Missing,
 }
 
 // The class that defines the method at a place of a class; the number of classes where there is no method there.
@@ -30,12 +24,19 @@ fn origin_at(tables: &[u32], class: u32, place: u32) -> u32
 }
 
 // The place of the method in the class that defines it, which is `found` where that is the class itself.
-fn place_in(text: &[u8], tables: &[u32], class: u32, found: u32, origin: u32, name: &[u8]) -> u32
-    requires { found ≡ member_place (members_of text.now tables.now class 1) name.now }
-    ensures { result ≡ member_place (members_of text.now tables.now origin 1) name.now }
+fn place_in(
+    text: &[u8],
+    tables: &[u32],
+    class: u32,
+    found: u32,
+    origin: u32,
+    name: &[u8],
+) -> Option<u32>
+    requires { Found (Some found) (member_place (members_of text.now tables.now class 1) name.now) (member_count tables.now class 1) }
+    ensures { Found result (member_place (members_of text.now tables.now origin 1) name.now) (member_count tables.now origin 1) }
 {
     if origin == class {
-        return found;
+        return Some(found);
     }
     super::find(text, tables, origin, layout::METHODS, name)
 }
@@ -51,18 +52,17 @@ pub fn body_of(tables: &[u32], class: u32, place: u32) -> Statements
     }
 }
 
-// The body of a class's method of that name; Missing where there is none.
-pub fn body_in(text: &[u8], tables: &[u32], class: u32, name: &[u8]) -> Body
+// The body of a class's method of that name; None where there is none.
+pub fn body_in(text: &[u8], tables: &[u32], class: u32, name: &[u8]) -> Option<Statements>
     ensures { result ≡ bounds_of (body_in text.now tables.now class name.now) }
 {
-    let found = super::find(text, tables, class, layout::METHODS, name);
+    let found = super::find(text, tables, class, layout::METHODS, name)?;
     let origin = origin_at(tables, class, found);
-    let place = place_in(text, tables, class, found, origin, name);
+    let place = place_in(text, tables, class, found, origin, name)?;
     if place < super::shown_count(tables, origin, layout::METHODS) {
-        let body = body_of(tables, origin, place);
-        Body::Found(body.first, body.end)
+        Some(body_of(tables, origin, place))
     } else {
-        Body::Missing
+        None
     }
 }
 
@@ -77,12 +77,11 @@ pub fn named_at(tables: &[u32], class: u32, place: u32, name: u32) -> bool
 }
 
 // The body of a class's method by its name's word: found at the place if the class has that name there, else by its name.
-pub fn body_at(text: &[u8], tables: &[u32], class: u32, place: u32, name: u32) -> Body
+pub fn body_at(text: &[u8], tables: &[u32], class: u32, place: u32, name: u32) -> Option<Statements>
     ensures { result ≡ bounds_of (body_at text.now tables.now class place name) }
 {
     if named_at(tables, class, place, name) {
-        let body = body_of(tables, class, place);
-        Body::Found(body.first, body.end)
+        Some(body_of(tables, class, place))
     } else {
         body_in(text, tables, class, super::name_of(text, name))
     }

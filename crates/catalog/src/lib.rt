@@ -4,7 +4,7 @@
 
 pub mod body;
 
-ghost use Rattle.std.specs.Prelude.{◌+◌, ◌*◌, ◌≤◌, ◌<◌, min, ◌≡◌, set, take, drop};
+ghost use Rattle.std.specs.Prelude.{◌+◌, ◌*◌, ◌≤◌, ◌<◌, ◌≡◌, set, take, drop};
 ghost use Rattle.layout.specs.Layout.{ancestors_at, domain_at, names_at, bodies_at, kind_words, commuting_at, class_words, object_class_at, object_values_at, object_words, classes_at, objects_at};
 ghost use Rattle.model.specs.Base.{same, first_at};
 ghost use Rattle.model.specs.Library.{member_place, class_number, is_class};
@@ -12,7 +12,7 @@ ghost use Rattle.catalog.specs.View.{name_of, part_of, class_word, object_word, 
 ghost use Rattle.laws.specs.Bits.{bit};
 ghost use Rattle.catalog.specs.Names.{name_word, part_word};
 ghost use Rattle.catalog.specs.Rows.{with_member, with_count};
-ghost use Rattle.catalog.specs.Look.{shown_count, first_named};
+ghost use Rattle.catalog.specs.Look.{shown_count, first_named, Found};
 
 const PART_UNIT: usize = layout::PART_UNIT as usize;
 
@@ -142,13 +142,6 @@ pub fn part_word(place: usize, size: usize) -> u32
     (place % PART_UNIT) as u32 * layout::PART_UNIT + (size % PART_UNIT) as u32
 }
 
-// The lower of two numbers.
-pub fn least(a: u32, b: u32) -> u32
-    ensures { result ≡ min a b }
-{
-    if a <= b { a } else { b }
-}
-
 // Whether the mask has the bit; no mask has a bit past its 32.
 pub fn has_bit(mask: u32, place: u32) -> bool
     ensures { result ≡ bit mask place }
@@ -164,25 +157,19 @@ pub fn has_bit(mask: u32, place: u32) -> bool
 pub fn class_count(tables: &[u32]) -> u32
     ensures { result ≡ class_count tables.now }
 {
-    least(layout::CLASSES, memory::get(tables, layout::CLASS_COUNT_AT))
+    memory::get(tables, layout::CLASS_COUNT_AT).min(layout::CLASSES)
 }
 
 pub fn statement_count(tables: &[u32]) -> u32
     ensures { result ≡ statement_count tables.now }
 {
-    least(
-        layout::STATEMENTS,
-        memory::get(tables, layout::STATEMENT_COUNT_AT),
-    )
+    memory::get(tables, layout::STATEMENT_COUNT_AT).min(layout::STATEMENTS)
 }
 
 pub fn object_count(tables: &[u32]) -> u32
     ensures { result ≡ object_count tables.now }
 {
-    least(
-        layout::OBJECTS,
-        memory::get(tables, layout::OBJECT_COUNT_AT),
-    )
+    memory::get(tables, layout::OBJECT_COUNT_AT).min(layout::OBJECTS)
 }
 
 // The number of fields (kind 0) or methods (kind 1) of a class.
@@ -194,7 +181,7 @@ pub fn member_count(tables: &[u32], class: u32, kind: u32) -> u32
         layout::CLASSES_AT
             + (class as usize * layout::CLASS_WORDS + (layout::MEMBER_COUNTS_AT + kind as usize)),
     );
-    least(layout::MEMBERS, count)
+    count.min(layout::MEMBERS)
 }
 
 // The number of fields or methods of the class with a number; 0 where there is no such class.
@@ -261,8 +248,8 @@ pub fn put_member_count(tables: &mut [u32], class: u32, kind: u32, count: u32)
     memory::put(tables, at, count);
 }
 
-// The place of the first of `count` names that equals the name; `count` where none does. Their words stand `step` places apart,
-// the first at `from`.
+// The place of the first of `count` names that equals the name; None where none does. Their words stand `step` places apart, the first
+// at `from`.
 fn first_named(
     text: &[u8],
     tables: &[u32],
@@ -270,43 +257,43 @@ fn first_named(
     step: usize,
     count: u32,
     name: &[u8],
-) -> u32
+) -> Option<u32>
     requires { (from < 17592186044416) × (step ≤ class_words) }
-    ensures { result ≡ first_named text.now tables.now from step count name.now }
+    ensures { Found result (first_named text.now tables.now from step count name.now) count }
 {
     let mut place = from;
-    let mut i = 0;
-    while i < count {
+    for i in 0..count {
         if is_named(text, memory::get(tables, place), name) {
-            return i;
+            return Some(i);
         }
         place += step;
-        i += 1;
     }
-    i
+    None
 }
 
-// The place of the first member of that name among a class's fields or methods; their number where there is none.
-pub fn find(text: &[u8], tables: &[u32], class: u32, kind: u32, name: &[u8]) -> u32
-    ensures { result ≡ member_place (members_of text.now tables.now class kind) name.now }
+// The place of the first member of that name among a class's fields or methods; None where there is none.
+pub fn find(text: &[u8], tables: &[u32], class: u32, kind: u32, name: &[u8]) -> Option<u32>
+    ensures { Found result (member_place (members_of text.now tables.now class kind) name.now) (member_count tables.now class kind) }
 {
     let count = member_count(tables, class, kind);
     let from = member_place(class, kind, layout::NAMES_AT, 0);
     first_named(text, tables, from, 1, count, name)
 }
 
-// The number of the first class of that name; the number of classes where there is none.
+// The number of the first class of that name; where there is none, the number of classes, as the definition `class_number` has it.
 pub fn class_number(text: &[u8], tables: &[u32], name: &[u8]) -> u32
     ensures { result ≡ class_number (library_of text.now tables.now) name.now }
 {
-    first_named(
+    let count = class_count(tables);
+    let found = first_named(
         text,
         tables,
         layout::CLASSES_AT,
         layout::CLASS_WORDS,
-        class_count(tables),
+        count,
         name,
-    )
+    );
+    found.unwrap_or(count)
 }
 
 // Whether there is a class of that name.
@@ -316,16 +303,18 @@ pub fn is_class(text: &[u8], tables: &[u32], name: &[u8]) -> bool
     class_number(text, tables, name) < class_count(tables)
 }
 
-// The number of the first object of that name; the number of objects where there is none.
+// The number of the first object of that name; where there is none, the number of objects, as the definition `first_at` has it.
 pub fn object_number(text: &[u8], tables: &[u32], name: &[u8]) -> u32
     ensures { result ≡ first_at (λ o. same o.name name.now) (library_of text.now tables.now).objects }
 {
-    first_named(
+    let count = object_count(tables);
+    let found = first_named(
         text,
         tables,
         layout::OBJECTS_AT,
         layout::OBJECT_WORDS,
-        object_count(tables),
+        count,
         name,
-    )
+    );
+    found.unwrap_or(count)
 }

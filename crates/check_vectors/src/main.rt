@@ -8,54 +8,27 @@ use std::io::Read;
 use std::rt::{Env, Files};
 use std::{fs, str};
 
-// Writes a space and a number.
-fn print_number(rt: &impl Print, n: u64) {
-    let _ = print!(rt; " {n}");
-}
-
-// Writes the number and the line of a verdict.
-fn print_verdict(rt: &impl Print, verdict: reader::Verdict) {
-    match verdict {
-        reader::Verdict::Accepted => {
-            print_number(rt, 0);
-            print_number(rt, 0);
-        }
-        reader::Verdict::Refused(number, line) => {
-            print_number(rt, number as u64);
-            print_number(rt, line as u64);
-        }
-    }
-    let _ = rt.write_all(b"\n");
-}
-
-// Writes out the first bytes of a part.
-fn print_front(rt: &impl Print, part: &[u8], size: usize) {
-    if size <= part.len() {
-        let start = 0;
-        let _ = rt.write_all(&part[start..size]);
-    }
-}
-
-// Writes out what a call has put into a part; nothing where it was refused.
-fn print_done(rt: &impl Print, part: &[u8], answer: cishmolaq::Answer) {
-    match answer {
-        cishmolaq::Answer::Done(size) => print_front(rt, part, size),
-        cishmolaq::Answer::Refused(_, _) => {}
-    }
+// Writes the name of a text, and its verdict.
+fn print_verdict(rt: &impl Print, path: &str, verdict: Result<(), reader::Refused>) {
+    let (number, line) = match verdict {
+        Ok(()) => (0, 0),
+        Err(refused) => (refused.fault.number(), refused.line),
+    };
+    let _ = println!(rt; "{path} {number} {line}");
 }
 
 // Writes what `tables` prints for the text.
 fn print_lines(rt: &impl Print, text: &[u8]) {
     let mut lines = [0u8; 66560];
     let answer = cishmolaq::print_tables(text, &mut lines);
-    print_done(rt, &lines, answer);
+    let _ = rt.write_all(streams::filled(&lines, answer));
 }
 
 // Writes the image of the text, nothing where it is refused.
 fn print_image(rt: &impl Print, text: &[u8]) {
     let mut image = [0u8; 40992];
     let answer = cishmolaq::compile(text, &mut image);
-    print_done(rt, &image, answer);
+    let _ = rt.write_all(streams::filled(&image, answer));
 }
 
 // Reads the text and writes its answers.
@@ -63,8 +36,7 @@ fn check_text(rt: &impl Print, path: &str, file: &mut impl Read) {
     // Twice the longest text: a longer one is cut, and is refused as too long all the same.
     let mut text = [0u8; 65536];
     let size = streams::read_full(file, &mut text);
-    let _ = rt.write_all(path.as_bytes());
-    print_verdict(rt, cishmolaq::check(&text[..size]));
+    print_verdict(rt, path, cishmolaq::check(&text[..size]));
     print_lines(rt, &text[..size]);
     print_image(rt, &text[..size]);
 }

@@ -18,17 +18,20 @@ use Rattle.text_theory.specs.Accepted.{Inside, library_within}
 use Rattle.catalog.specs.View.{statement_word, class_count, statement_count, member_count, placed_of, library_of}
 use Rattle.laws.specs.Upto.{get_d_upto}
 use Rattle.catalog.specs.Look.{statement_count_law}
-use Rattle.reader.specs.Verdicts.{Tells, ReadInto}
-use Rattle.reader.specs.declared.Verdict.{Verdict}
-use Rattle.reader.specs.declared.Verdict.TheVariants as Verdicts
+use Rattle.std.specs.Prelude.{Result, Ok, Err, IsErrAnd}
+use Rattle.std.proofs.lemmas.Result.{err_from_is_err_and}
+use Rattle.refusals.specs.Numbers.{fault_number}
+use Rattle.refusals.specs.declared.Refusal.TheVariants.{TooShort, OtherCount}
+use Rattle.reader.specs.Verdicts.{Verdict, Tells, ReadInto}
+use Rattle.reader.specs.declared.Refused.{Refused}
 use Rattle.vector_compiler.specs.Filled.{Filled, same_classes, same_methods}
 use Rattle.image.specs.Written.{image_from, starting_from, tables_from}
 use Rattle.image.specs.Sizes.{value_count, starting_length}
 use Rattle.output.specs.Append.{Printed, over, over_fits, over_whole}
 use Rattle.image.specs.Starting.{starting_law}
 use Rattle.image.specs.Laws.{Masks, image_law, tables_law}
-use Rattle.cishmolaq.specs.declared.Answer.{Answer}
-use Rattle.cishmolaq.specs.declared.Answer.TheVariants.{Done, Refused}
+use Rattle.cishmolaq.specs.declared.Error.{Error}
+use Rattle.cishmolaq.specs.declared.Error.TheVariants.{Text, Lent as Unfit}
 use Rattle.cishmolaq.specs.declared.Place.{Place}
 use Rattle.cishmolaq.specs.Answers.{Fits, Compiles, Prints, Stands, Starts}
 
@@ -51,12 +54,12 @@ filled_masks text ws ws' f size = record {
 
 module _ (run buffer : List ℕ) where
   -- A buffer that is too short: 21, and nothing is written.
-  pub fits_short : length buffer < length run → Fits run buffer (Refused 21 0) buffer
+  pub fits_short : length buffer < length run → Fits run buffer (Err (Unfit TooShort)) buffer
   unfolding into
   fits_short h = record { says = rw (lt-ltb (length buffer) (length run) h); bytes = rw (lt-ltb (length buffer) (length run) h); kept = refl }
 
   -- The run is written, and what lies past it is unchanged.
-  pub fits_done : length run ≤ length buffer → (n : ℕ) → n ≡ length run → (after : List ℕ) → after ≡ over run buffer → Fits run buffer (Done n) after
+  pub fits_done : length run ≤ length buffer → (n : ℕ) → n ≡ length run → (after : List ℕ) → after ≡ over run buffer → Fits run buffer (Ok n) after
   unfolding into
   fits_done h n e after w = record {
     says = rw (le-ltb (length buffer) (length run) h) (ap done e);
@@ -69,12 +72,12 @@ module _ (run buffer : List ℕ) where
     nothing_written : last ++ buffer ≡ buffer
     nothing_written = ap (λ (l : List ℕ). l ++ buffer) (p.bytes ∙ drop-nil (length run))
 
-    pub print_short : length (last ++ buffer) < n → Fits run buffer (Refused 21 0) (last ++ buffer)
+    pub print_short : length (last ++ buffer) < n → Fits run buffer (Err (Unfit TooShort)) (last ++ buffer)
     print_short h =
-        subst (λ (l : List ℕ). Fits run buffer (Refused 21 0) l) (sym nothing_written)
+        subst (λ (l : List ℕ). Fits run buffer (Err (Unfit TooShort)) l) (sym nothing_written)
         (fits_short (omega (arith, ap length nothing_written, p.count)))
 
-    pub print_done : n ≤ length (last ++ buffer) → (m : ℕ) (after : List ℕ) → Printed run (last ++ buffer) m after → Fits run buffer (Done n) after
+    pub print_done : n ≤ length (last ++ buffer) → (m : ℕ) (after : List ℕ) → Printed run (last ++ buffer) m after → Fits run buffer (Ok n) after
     print_done h m after q =
         fits_done (omega (arith, ap length nothing_written, p.count)) n p.count after (q.bytes ∙ ap (over run) nothing_written)
 
@@ -86,9 +89,10 @@ module _ (text buffer : List ℕ) where
   image_none number line e = ap image_in e
 
   -- A refused text: its fault, and nothing is written.
-  pub compile_refused : (number line : ℕ) → read text ≡ refused number line → Compiles text buffer (Refused number line) buffer
+  pub compile_refused : (r : Refused) → read text ≡ refused (fault_number r.fault) r.line → Compiles text buffer (Err (Text r)) buffer
   unfolding compile_answer compiled_into into
-  compile_refused number line e = record { says = rw e; bytes = rw (image_none number line e, le-ltb (length buffer) 0 (omega arith)); kept = refl }
+  compile_refused r e =
+      record { says = rw e; bytes = rw (image_none (fault_number r.fault) r.line e, le-ltb (length buffer) 0 (omega arith)); kept = refl }
 
   module _ (ws ws' : List ℕ) (size : length ws ≡ table_words) (f : Filled text ws ws') (e : read text ≡ accepted (library_of text ws)) where
     image_is : image text ≡ image_from ws'
@@ -96,7 +100,7 @@ module _ (text buffer : List ℕ) where
     image_is = ap image_in e ∙ sym (image_law text ws' (library_of text ws) f.library (filled_masks text ws ws' f size))
 
     -- An accepted text: its image, where it fits.
-    pub compile_fits : {r : Answer} {after : List ℕ} → Fits (image_from ws') buffer r after → Compiles text buffer r after
+    pub compile_fits : {r : Result ℕ Error} {after : List ℕ} → Fits (image_from ws') buffer r after → Compiles text buffer r after
     unfolding compile_answer compiled_into
     compile_fits h = record {
       says = h.says ∙ sym (ap (λ (x : Reading). or_fault x (λ l. fitted (image text) (length buffer))) e ∙ ap (λ (l : List ℕ). fitted l (length buffer)) image_is);
@@ -162,9 +166,9 @@ part_at text count at size e = rw e
 -- ---- starting values
 
 module _ (text list : List ℕ) where
-  pub values_refused : (number line : ℕ) → read text ≡ refused number line → Starts text list (Refused number line) list
+  pub values_refused : (r : Refused) → read text ≡ refused (fault_number r.fault) r.line → Starts text list (Err (Text r)) list
   unfolding values_answer starting_values_into
-  values_refused number line e = record { says = rw e; values = rw e; kept = refl }
+  values_refused r e = record { says = rw e; values = rw e; kept = refl }
 
   module _ (ws : List ℕ) (e : read text ≡ accepted (library_of text ws)) where
     starting_is : starting_from text ws ≡ starting_values (library_of text ws)
@@ -173,7 +177,7 @@ module _ (text list : List ℕ) where
     pub count_is : value_count ws ≡ length (starting_values (library_of text ws))
     count_is = sym (starting_length text ws) ∙ ap length starting_is
 
-    pub values_other : (length list ≡ value_count ws → ⊥) → Starts text list (Refused 22 0) list
+    pub values_other : (length list ≡ value_count ws → ⊥) → Starts text list (Err (Unfit OtherCount)) list
     unfolding values_answer starting_values_into
     values_other h =
         let other : length list ≡ length (starting_values (library_of text ws)) → ⊥ = λ q. h (q ∙ sym count_is) in
@@ -183,7 +187,7 @@ module _ (text list : List ℕ) where
           kept = refl;
         }
 
-    pub values_done : length list ≡ value_count ws → (after : List ℕ) → after ≡ over (starting_from text ws) list → Starts text list (Done 0) after
+    pub values_done : length list ≡ value_count ws → (after : List ℕ) → after ≡ over (starting_from text ws) list → Starts text list (Ok tt) after
     unfolding values_answer starting_values_into
     values_done h after w =
         let same : length list ≡ length (starting_values (library_of text ws)) = h ∙ count_is in
@@ -196,7 +200,7 @@ module _ (text list : List ℕ) where
 
 -- ---- what `tables` prints
 
-module _ (text : List ℕ) {buffer : List ℕ} {r : Answer} {after : List ℕ} where
+module _ (text : List ℕ) {buffer : List ℕ} {r : Result ℕ Error} {after : List ℕ} where
   printed_fits : (run : List ℕ) → run ≡ printed text → Fits run buffer r after → Prints text buffer r after
   unfolding print_answer printed_into
   printed_fits run e h = record {
@@ -220,8 +224,12 @@ module _ (text : List ℕ) {buffer : List ℕ} {r : Answer} {after : List ℕ} w
 -- ---- from a verdict to the reading
 
 module _ {text ws : List ℕ} {r : Verdict} (h : ReadInto text r ws) where
-  pub refused_by : (number line : ℕ) → r ≡ Verdicts.Refused number line → read text ≡ refused number line
-  refused_by number line e = subst (λ (v : Verdict). Tells v (library_of text ws) (read text)) e h.tells
+  pub refused_by : (e : Refused) → r ≡ Err e → read text ≡ refused (fault_number e.fault) e.line
+  refused_by e q = subst (λ (v : Verdict). Tells v (library_of text ws) (read text)) q h.tells
 
-  pub accepted_by : r ≡ Verdicts.Accepted → read text ≡ accepted (library_of text ws)
-  accepted_by e = subst (λ (v : Verdict). Tells v (library_of text ws) (read text)) e h.tells
+  pub accepted_by : {x : Unit {0}} → r ≡ Ok x → read text ≡ accepted (library_of text ws)
+  accepted_by q = subst (λ (v : Verdict). Tells v (library_of text ws) (read text)) q h.tells
+
+-- What a `?` after the reading answers of a refused text.
+pub refused_text : {T : Type 0} {r : Result T Error} {e : Refused} (P : Result T Error → Type 0) → IsErrAnd r (λ x. x ≡ Text e) → P (Err (Text e)) → P r
+refused_text {r = r} P h p = let q = err_from_is_err_and r h in subst P (sym (q.1 ∙ ap Err q.2)) p

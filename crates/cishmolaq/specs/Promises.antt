@@ -9,13 +9,12 @@ use Rattle.machine_words.specs.Calls.{Lent, slot_in, called}
 use Rattle.machine_refinement.specs.Rep.{Rep}
 use Rattle.machine_refinement.specs.Refines.{refines}
 use Rattle.machine_refinement.specs.Refusals.{never_unfit}
-use Rattle.machine_words.specs.declared.Outcome.{Outcome}
-use Rattle.machine_words.specs.Said.{told}
+use Rattle.machine_words.specs.Said.{CallResult, told}
 use Rattle.machine_checks.specs.Told.{Leaves}
 use Rattle.cishmolaq.specs.Keeps.{Kept, Holder, Numbered, Keeps, every_call}
 
 -- A call on what is lent, with its answer and what it left of it.
-pub record Does (x : Lent) (c : Call) (r : Outcome) (y : Lent) : Type 0 where
+pub record Does (x : Lent) (c : Call) (r : CallResult) (y : Lent) : Type 0 where
   -- Demand 1: "a call gives 24 or follows the rules below on what it finds", whatever is lent, as the definition says.
   pub any : Leaves (called x c) r y
   -- With every number but 40 and 41 what is lent is unchanged; 40 leaves the slot waiting, the last in line, and nothing else altered.
@@ -34,7 +33,7 @@ pub record Does (x : Lent) (c : Call) (r : Outcome) (y : Lent) : Type 0 where
   pub fits : (p : Program) (w : World (service p)) → Rep x p w → (n : ℕ) → told r ≡ refuse n → 31 ≤ n
 
 -- What meets the definition keeps all of these promises.
-pub promised : (x : Lent) (c : Call) (r : Outcome) (y : Lent) → Leaves (called x c) r y → Does x c r y
+pub promised : (x : Lent) (c : Call) (r : CallResult) (y : Lent) → Leaves (called x c) r y → Does x c r y
 promised x c r y h = record {
   any = h;
   kept =

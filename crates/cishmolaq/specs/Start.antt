@@ -17,7 +17,11 @@ use Rattle.machine_words.specs.Calls.{Lent, with_words}
 use Rattle.machine_refinement.specs.Rep.{Fresh}
 use Rattle.machine_start.specs.Started.{Fill}
 use Rattle.machine_start.specs.Installed.{installed, rest_there, fresh_start}
-use Rattle.cishmolaq.specs.declared.Answer.TheVariants.{Done, Refused}
+use Rattle.std.specs.Prelude.{Ok, Err}
+use Rattle.refusals.specs.Numbers.{fault_number}
+use Rattle.refusals.specs.declared.Refusal.TheVariants.{TooShort, OtherCount}
+use Rattle.reader.specs.declared.Refused.{Refused}
+use Rattle.cishmolaq.specs.declared.Error.TheVariants.{Text, Lent as Unfit}
 use Rattle.cishmolaq.specs.Answers.{Begins}
 use Rattle.cishmolaq.specs.Laws.{count_is}
 
@@ -26,9 +30,9 @@ module _ (x : Lent) where
   text = x.text
 
   -- A refused text: its fault, and nothing altered.
-  pub start_refused : (number line : ℕ) → read text ≡ refused number line → Begins x (Refused number line) x
+  pub start_refused : (r : Refused) → read text ≡ refused (fault_number r.fault) r.line → Begins x (Err (Text r)) x
   unfolding start_answer
-  start_refused number line e = record { says = rw e; leaves = refl }
+  start_refused r e = record { says = rw e; leaves = refl }
 
   module _ (tables : List ℕ) (e : read text ≡ accepted (library_of text tables)) where
     library_is : library_of text tables ≡ library text
@@ -40,13 +44,13 @@ module _ (x : Lent) where
     many = length (starting_values (library_of text tables))
 
     -- A state that is too short: 21, and nothing altered.
-    pub start_short : length x.words < state_words → Begins x (Refused 21 0) x
+    pub start_short : length x.words < state_words → Begins x (Err (Unfit TooShort)) x
     unfolding start_answer
     start_short h = record { says = rw (e, lt-ltb (length x.words) state_words h); leaves = refl }
 
     module _ (long : state_words ≤ length x.words) where
       -- A list with another number of values: 22, and nothing altered.
-      pub start_other : (length x.values ≡ value_count tables → ⊥) → Begins x (Refused 22 0) x
+      pub start_other : (length x.values ≡ value_count tables → ⊥) → Begins x (Err (Unfit OtherCount)) x
       unfolding start_answer
       start_other h =
           let other : length x.values ≡ many → ⊥ = λ q. h (q ∙ sym (count_is text x.values tables e)) in
@@ -54,7 +58,7 @@ module _ (x : Lent) where
 
       -- A fresh start in the state's words, and what lies past them unchanged.
       pub start_done : length x.values ≡ value_count tables → (filled after : List ℕ) → Fill text tables filled
-          → after ≡ installed filled (drop state_words x.words) → Begins x (Done 0) (with_words x after)
+          → after ≡ installed filled (drop state_words x.words) → Begins x (Ok tt) (with_words x after)
       unfolding start_answer
       start_done h filled after f q =
           let same : length x.values ≡ many = h ∙ count_is text x.values tables e in

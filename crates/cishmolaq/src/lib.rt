@@ -15,20 +15,51 @@ ghost use Rattle.reader.specs.Verdicts.{Checks};
 ghost use Rattle.machine_words.specs.Calls.{lending};
 ghost use Rattle.machine_words.specs.Said.{aimed};
 ghost use Rattle.cishmolaq.specs.Promises.{Does};
-ghost use Rattle.cishmolaq.specs.Answers.{said, Fits, Compiles, Prints, Stands, Starts, Begins};
+ghost use Rattle.cishmolaq.specs.declared.Error.TheVariants.{Text};
+ghost use Rattle.cishmolaq.specs.Answers.{error_number, error_line, said_done, Fits, Compiles, Prints, Stands, Starts, Begins};
 
 use machine_words::{Outcome, Target};
-use reader::Verdict;
+use reader::Refused;
+use refusals::Refusal;
 
-// Done, with a length where one is asked for; or refused with a number and a line, 0 where the number has no line.
-#[derive(Clone, Copy)]
-pub enum Answer {
-    Done(usize),
-    Refused(u32, usize),
+// Why an entry over a text is refused: by the text's first fault, or by what is lent.
+#[derive(Clone, Copy, Debug, PartialEq, Eq)]
+pub enum Error {
+    Text(Refused),
+    Lent(Refusal),
 }
 
-// The verdict on a text: accepted, or refused with the number and the line of its fault.
-pub fn check(text: &[u8]) -> Verdict
+impl From<Refused> for Error {
+    ghost from_gives = { λ refused error. error ≡ Text refused };
+
+    fn from(refused: Refused) -> Error {
+        Error::Text(refused)
+    }
+}
+
+impl Error {
+    pub fn number(self) -> u32
+        ensures { result ≡ error_number self }
+    {
+        match self {
+            Error::Text(refused) => refused.fault.number(),
+            Error::Lent(refusal) => refusal.number(),
+        }
+    }
+
+    // The line of a text's fault; 0 where what is lent is at fault.
+    pub fn line(self) -> usize
+        ensures { result ≡ error_line self }
+    {
+        match self {
+            Error::Text(refused) => refused.line,
+            Error::Lent(_) => 0,
+        }
+    }
+}
+
+// The verdict on a text: accepted, or refused by its first fault.
+pub fn check(text: &[u8]) -> Result<(), Refused>
     ensures { Checks text.now result }
 {
     let mut tables = [0u32; layout::TABLE_WORDS];
@@ -36,7 +67,7 @@ pub fn check(text: &[u8]) -> Verdict
 }
 
 // Writes the image of an accepted text, whose library is in `tables`.
-fn write_image(text: &[u8], tables: &mut [u32], image: &mut [u8]) -> Answer
+fn write_image(text: &[u8], tables: &mut [u32], image: &mut [u8]) -> Result<usize, Error>
     requires { length tables.old ≡ table_words }
     ensures { read text.now ≡ accepted (library_of text.now tables.old)
         → Compiles text.now image.old result image.new }
@@ -44,22 +75,19 @@ fn write_image(text: &[u8], tables: &mut [u32], image: &mut [u8]) -> Answer
     vector_compiler::fill::fill_vectors(text, tables);
     let size = image::image_size(tables);
     if image.len() < size {
-        return Answer::Refused(21, 0);
+        return Err(Error::Lent(Refusal::TooShort));
     }
     image::write_image(tables, image);
-    Answer::Done(size)
+    Ok(size)
 }
 
 // Writes the image of the text, and answers its length. 21 where the buffer is shorter.
-pub fn compile(text: &[u8], image: &mut [u8]) -> Answer
+pub fn compile(text: &[u8], image: &mut [u8]) -> Result<usize, Error>
     ensures { Compiles text.now image.old result image.new }
 {
     let mut tables = [0u32; layout::TABLE_WORDS];
-    let verdict = reader::read_text(text, &mut tables);
-    match verdict {
-        Verdict::Refused(number, line) => Answer::Refused(number, line),
-        Verdict::Accepted => write_image(text, &mut tables, image),
-    }
+    reader::read_text(text, &mut tables)?;
+    write_image(text, &mut tables, image)
 }
 
 // The place of a statement in the text, and its size in bytes; both 0 where there is none.
@@ -89,10 +117,9 @@ pub fn statement_place(text: &[u8], count: u32) -> Place
     ensures { Stands text.now count result }
 {
     let mut tables = [0u32; layout::TABLE_WORDS];
-    let verdict = reader::read_text(text, &mut tables);
-    match verdict {
-        Verdict::Refused(_, _) => Place { at: 0, size: 0 },
-        Verdict::Accepted => place_at(&tables, count),
+    match reader::read_text(text, &mut tables) {
+        Ok(()) => place_at(&tables, count),
+        Err(_) => Place { at: 0, size: 0 },
     }
 }
 
@@ -105,49 +132,41 @@ pub fn statement(text: &[u8], count: u32) -> &[u8]
 }
 
 // The number for looking up a statement by its count: 23 from the number of statements on.
-pub fn statement_fault(text: &[u8], count: u32) -> Answer
-    ensures { said result ≡ statement_answer text.now count }
+pub fn statement_fault(text: &[u8], count: u32) -> Result<(), Error>
+    ensures { said_done result ≡ statement_answer text.now count }
 {
     let mut tables = [0u32; layout::TABLE_WORDS];
-    let verdict = reader::read_text(text, &mut tables);
-    match verdict {
-        Verdict::Refused(number, line) => Answer::Refused(number, line),
-        Verdict::Accepted => {
-            if count < catalog::statement_count(&tables) {
-                Answer::Done(0)
-            } else {
-                Answer::Refused(23, 0)
-            }
-        }
+    reader::read_text(text, &mut tables)?;
+    if count < catalog::statement_count(&tables) {
+        Ok(())
+    } else {
+        Err(Error::Lent(Refusal::NoStatement))
     }
 }
 
 // Writes the starting values of an accepted text, whose library is in `tables`.
-fn write_values(text: &[u8], tables: &[u32], values: &mut [u32]) -> Answer
+fn write_values(text: &[u8], tables: &[u32], values: &mut [u32]) -> Result<(), Error>
     ensures { read text.now ≡ accepted (library_of text.now tables.now)
         → Starts text.now values.old result values.new }
 {
     if values.len() != image::value_count(tables) {
-        return Answer::Refused(22, 0);
+        return Err(Error::Lent(Refusal::OtherCount));
     }
     image::write_values(text, tables, values);
-    Answer::Done(0)
+    Ok(())
 }
 
 // Writes the text's starting values, object by object. 22 where the list has another length.
-pub fn starting_values(text: &[u8], values: &mut [u32]) -> Answer
+pub fn starting_values(text: &[u8], values: &mut [u32]) -> Result<(), Error>
     ensures { Starts text.now values.old result values.new }
 {
     let mut tables = [0u32; layout::TABLE_WORDS];
-    let verdict = reader::read_text(text, &mut tables);
-    match verdict {
-        Verdict::Refused(number, line) => Answer::Refused(number, line),
-        Verdict::Accepted => write_values(text, &tables, values),
-    }
+    reader::read_text(text, &mut tables)?;
+    write_values(text, &tables, values)
 }
 
 // Writes the lines of an accepted text, whose library is in `tables`. They are printed into no bytes first, to learn their length.
-fn write_lines(text: &[u8], tables: &mut [u32], out: &mut [u8]) -> Answer
+fn write_lines(text: &[u8], tables: &mut [u32], out: &mut [u8]) -> Result<usize, Error>
     requires { length tables.old ≡ table_words }
     ensures { read text.now ≡ accepted (library_of text.now tables.old)
         → Prints text.now out.old result out.new }
@@ -155,38 +174,37 @@ fn write_lines(text: &[u8], tables: &mut [u32], out: &mut [u8]) -> Answer
     vector_compiler::fill::fill_vectors(text, tables);
     let length = image::write_tables(text, tables, &mut out[..0]);
     if out.len() < length {
-        return Answer::Refused(21, 0);
+        return Err(Error::Lent(Refusal::TooShort));
     }
     image::write_tables(text, tables, out);
-    Answer::Done(length)
+    Ok(length)
 }
 
 // Writes the line of a refused text.
-fn write_refusal(number: u32, line: u32, out: &mut [u8]) -> Answer
+fn write_refusal(number: u32, line: u32, out: &mut [u8]) -> Result<usize, Error>
     ensures { Fits (refusal_printed number line) out.old result out.new }
 {
     let count = output::write_refusal(number, line, &mut out[..0]);
     if out.len() < count {
-        return Answer::Refused(21, 0);
+        return Err(Error::Lent(Refusal::TooShort));
     }
     output::write_refusal(number, line, out);
-    Answer::Done(count)
+    Ok(count)
 }
 
 // Writes what `tables` prints for the text, and answers its length. 21 where the buffer is shorter.
-pub fn print_tables(text: &[u8], out: &mut [u8]) -> Answer
+pub fn print_tables(text: &[u8], out: &mut [u8]) -> Result<usize, Error>
     ensures { Prints text.now out.old result out.new }
 {
     let mut tables = [0u32; layout::TABLE_WORDS];
-    let verdict = reader::read_text(text, &mut tables);
-    match verdict {
-        Verdict::Refused(number, line) => write_refusal(number, line as u32, out),
-        Verdict::Accepted => write_lines(text, &mut tables, out),
+    match reader::read_text(text, &mut tables) {
+        Ok(()) => write_lines(text, &mut tables, out),
+        Err(refused) => write_refusal(refused.fault.number(), refused.line as u32, out),
     }
 }
 
 // Starts on an accepted text, whose library is in `tables`.
-fn start_on(text: &[u8], tables: &mut [u32], values: &[u32], state: &mut [u32]) -> Answer
+fn start_on(text: &[u8], tables: &mut [u32], values: &[u32], state: &mut [u32]) -> Result<(), Error>
     requires { length tables.old ≡ table_words }
     ensures { read text.now ≡ accepted (library_of text.now tables.old)
         → Begins (lending text.now state.old values.now)
@@ -194,28 +212,25 @@ fn start_on(text: &[u8], tables: &mut [u32], values: &[u32], state: &mut [u32]) 
 {
     let count = image::value_count(tables);
     if state.len() < layout::STATE_WORDS {
-        Answer::Refused(21, 0)
+        Err(Error::Lent(Refusal::TooShort))
     } else if values.len() != count {
-        Answer::Refused(22, 0)
+        Err(Error::Lent(Refusal::OtherCount))
     } else {
         machine_start::fill(text, tables);
         machine_start::install(tables, state);
-        Answer::Done(0)
+        Ok(())
     }
 }
 
 // Starts the machine on a text and its values: the tables of the text, eight closed slots and an empty line, in the lent state. 21 where
 // the state is too short, 22 where the list of values has another length.
-pub fn start(text: &[u8], values: &[u32], state: &mut [u32]) -> Answer
+pub fn start(text: &[u8], values: &[u32], state: &mut [u32]) -> Result<(), Error>
     ensures { Begins (lending text.now state.old values.now)
         result (lending text.now state.new values.now) }
 {
     let mut tables = [0u32; layout::TABLE_WORDS];
-    let verdict = reader::read_text(text, &mut tables);
-    match verdict {
-        Verdict::Refused(number, line) => Answer::Refused(number, line),
-        Verdict::Accepted => start_on(text, &mut tables, values, state),
-    }
+    reader::read_text(text, &mut tables)?;
+    start_on(text, &mut tables, values, state)
 }
 
 // Sends a message to a target: the method at a place of its class, with an argument. Granted, it opens a closed slot, the transaction
@@ -229,7 +244,7 @@ pub fn send(
     target: Target,
     place: u32,
     argument: u32,
-) -> Outcome
+) -> Result<Outcome, Refusal>
     ensures { Does (lending text.now state.old values.now) (send slot (to (aimed target) place argument))
         result (lending text.now state.new values.now) }
 {
@@ -237,7 +252,12 @@ pub fn send(
 }
 
 // Runs one statement of the slot's message, or ends a body. 41 where the message is stopped; that does the work of abort.
-pub fn step(text: &[u8], state: &mut [u32], values: &mut [u32], slot: u32) -> Outcome
+pub fn step(
+    text: &[u8],
+    state: &mut [u32],
+    values: &mut [u32],
+    slot: u32,
+) -> Result<Outcome, Refusal>
     ensures { Does (lending text.now state.old values.old) (step slot)
         result (lending text.now state.new values.new) }
 {
@@ -245,7 +265,7 @@ pub fn step(text: &[u8], state: &mut [u32], values: &mut [u32], slot: u32) -> Ou
 }
 
 // Ends the slot's transaction and keeps the values. Those who wait are woken.
-pub fn commit(text: &[u8], state: &mut [u32], values: &[u32], slot: u32) -> Outcome
+pub fn commit(text: &[u8], state: &mut [u32], values: &[u32], slot: u32) -> Result<Outcome, Refusal>
     ensures { Does (lending text.now state.old values.now) (commit slot)
         result (lending text.now state.new values.now) }
 {
@@ -253,7 +273,12 @@ pub fn commit(text: &[u8], state: &mut [u32], values: &[u32], slot: u32) -> Outc
 }
 
 // Undoes the slot's transaction: puts back the values, withdraws a waiting send, and frees the slot. Those who wait are woken.
-pub fn abort(text: &[u8], state: &mut [u32], values: &mut [u32], slot: u32) -> Outcome
+pub fn abort(
+    text: &[u8],
+    state: &mut [u32],
+    values: &mut [u32],
+    slot: u32,
+) -> Result<Outcome, Refusal>
     ensures { Does (lending text.now state.old values.old) (abort slot)
         result (lending text.now state.new values.new) }
 {

@@ -28,11 +28,9 @@ use Rattle.machine_words.specs.Calls.{Lent, tables_of, row_of, phase_of}
 use Rattle.machine_refinement.specs.Rep.{run_of, NowRep, SlotRep, settled, Rep}
 use Rattle.machine_refinement.specs.State.{row_size}
 use Rattle.machine_refinement.specs.WaitRows.{withdrawn_phase, settled_ready, settled_waits}
-use Rattle.machine_words.specs.declared.Outcome.{Outcome}
-use Rattle.machine_words.specs.Said.{told}
-use Rattle.cishmolaq.specs.declared.Answer as Start
+use Rattle.machine_words.specs.Said.{CallResult, told}
 use Rattle.model.specs.Told as Entry
-use Rattle.cishmolaq.specs.Answers.{said, Begins}
+use Rattle.cishmolaq.specs.Answers.{Done, said_done, Begins}
 use Rattle.cishmolaq.specs.Promises.{Does}
 use Rattle.guarantees.specs.Made.{Made, none, then}
 use Rattle.guarantees.specs.Open.{ClosedIn, OpenIn, WaitingIn, closed_slot, slot_closed, waiting_slot, phase_waits, waits_phase}
@@ -41,28 +39,28 @@ use Rattle.guarantees.specs.PlainCourse.{program_of, made_rep}
 -- ---- moments of a list of calls
 
 -- P holds of what is lent before the calls or after one of them.
-abbrev pub Sometime : {x y : Lent} {cs : List Call} {rs : List Outcome} → (Lent → Type 0) → Made x cs rs y → Type 0
+abbrev pub Sometime : {x y : Lent} {cs : List Call} {rs : List CallResult} → (Lent → Type 0) → Made x cs rs y → Type 0
 Sometime P (none {x = x}) = P x
 Sometime P (then {x = x} d m) = P x ⊎ Sometime P m
 
 -- Slot j is closed at some moment, and slot s does not wait at some moment.
-abbrev pub Closes : {x y : Lent} {cs : List Call} {rs : List Outcome} → ℕ → Made x cs rs y → Type 0
+abbrev pub Closes : {x y : Lent} {cs : List Call} {rs : List CallResult} → ℕ → Made x cs rs y → Type 0
 Closes j m = Sometime (λ l. ClosedIn l j) m
 
-abbrev pub Leaves : {x y : Lent} {cs : List Call} {rs : List Outcome} → ℕ → Made x cs rs y → Type 0
+abbrev pub Leaves : {x y : Lent} {cs : List Call} {rs : List CallResult} → ℕ → Made x cs rs y → Type 0
 Leaves s m = Sometime (λ l. WaitingIn l s → ⊥) m
 
 -- The moments of what is lent are those of the worlds that it represents.
 module _ (p : Program) (P : World (service p) → Type 0) (Q : Lent → Type 0) where
   to_world : ((x : Lent) (w : World (service p)) → Rep x p w → Q x → P w)
-      → {x y : Lent} {cs : List Call} {rs : List Outcome} (m : Made x cs rs y)
+      → {x y : Lent} {cs : List Call} {rs : List CallResult} (m : Made x cs rs y)
       (w : World (service p)) → Rep x p w → Sometime Q m → Model.Sometime (service p) P w cs
   to_world f (none {x = x}) w rep h = f x w rep h
   to_world f (then {x = x} d m) w rep (inl h) = inl (f x w rep h)
   to_world f (then {c = c} d m) w rep (inr h) = inr (to_world f m (call p w c).1 (d.next p w rep) h)
 
   from_world : ((x : Lent) (w : World (service p)) → Rep x p w → P w → Q x)
-      → {x y : Lent} {cs : List Call} {rs : List Outcome} (m : Made x cs rs y)
+      → {x y : Lent} {cs : List Call} {rs : List CallResult} (m : Made x cs rs y)
       (w : World (service p)) → Rep x p w → Model.Sometime (service p) P w cs → Sometime Q m
   from_world f (none {x = x}) w rep h = f x w rep h
   from_world f (then {x = x} d m) w rep (inl h) = inl (f x w rep h)
@@ -111,14 +109,14 @@ pub record InLine (text values : List ℕ) (cs : List Call) (z : Lent) : Type 0 
   -- "A waiting send starts no later than the call that ends the last transaction it clashes with among those holding locks or ahead in
   -- line", by the answers: a send with 40 waits no more once each slot that it clashed with has closed ..
   pub in_time : (s : ℕ) (q : Request) (m : Message) (k : ℕ) → find (program_of text) q ≡ some m
-      → {r : Outcome} {z₁ : Lent} → Does z (send s q) r z₁ → told r ≡ held k
-      → {ds : List Call} {rs : List Outcome} {z₂ : Lent} (more : Made z₁ ds rs z₂)
+      → {r : CallResult} {z₁ : Lent} → Does z (send s q) r z₁ → told r ≡ held k
+      → {ds : List Call} {rs : List CallResult} {z₂ : Lent} (more : Made z₁ ds rs z₂)
       → ((j : ℕ) → j < 8 → in_the_way (service (program_of text)) (left (program_of text) values cs).slots (left (program_of text) values cs).line s m j ≡ true → Closes j more)
       → Leaves s more
   -- .. and its message is at its start by then, unless its slot aborts.
   pub starts_in_time : (s : ℕ) (q : Request) (m : Message) (k : ℕ) → find (program_of text) q ≡ some m
-      → {r : Outcome} {z₁ : Lent} → Does z (send s q) r z₁ → told r ≡ held k
-      → {ds : List Call} {rs : List Outcome} {z₂ : Lent} (more : Made z₁ ds rs z₂) → All (λ c. c ≡ abort s → ⊥) ds
+      → {r : CallResult} {z₁ : Lent} → Does z (send s q) r z₁ → told r ≡ held k
+      → {ds : List Call} {rs : List CallResult} {z₂ : Lent} (more : Made z₁ ds rs z₂) → All (λ c. c ≡ abort s → ⊥) ds
       → ((j : ℕ) → j < 8 → in_the_way (service (program_of text)) (left (program_of text) values cs).slots (left (program_of text) values cs).line s m j ≡ true → Closes j more)
       → Sometime (Starting (program_of text) s m) more
   -- "whenever some transaction is open, at least one isn't waiting" (02, Ticket 8), by the answers.
@@ -169,7 +167,7 @@ module _ (text values : List ℕ) (cs : List Call) where
       go false h a = absurd (let z : ◌≡◌ {A = ℕ} 0 1 = cc in omega arith)
 
 -- It is so after any list of calls.
-pub line_seen : (x : Lent) (r : Start.Answer) (y : Lent) → Begins x r y → said r ≡ Entry.done 0 → {cs : List Call} {rs : List Outcome} {z : Lent} → Made y cs rs z
+pub line_seen : (x : Lent) (r : Done) (y : Lent) → Begins x r y → said_done r ≡ Entry.done 0 → {cs : List Call} {rs : List CallResult} {z : Lent} → Made y cs rs z
     → InLine y.text y.values cs z
 line_seen x r y begins e {cs} {rs} {z} made =
     record {
@@ -212,7 +210,7 @@ line_seen x r y begins e {cs} {rs} {z} made =
     promised = line_promises text values cs
 
     -- Each slot that the send clashed with closes in the world, where it does by the answers.
-    ends : (s : ℕ) (m : Message) {x₁ x₂ : Lent} {ds : List Call} {ss : List Outcome} (more : Made x₁ ds ss x₂) (w₁ : World (service p₀)) → Rep x₁ p₀ w₁
+    ends : (s : ℕ) (m : Message) {x₁ x₂ : Lent} {ds : List Call} {ss : List CallResult} (more : Made x₁ ds ss x₂) (w₁ : World (service p₀)) → Rep x₁ p₀ w₁
         → ((j : ℕ) → j < 8 → in_the_way (service p₀) w₀.slots w₀.line s m j ≡ true → Closes j more)
         → (j : ℕ) → in_the_way (service p₀) w₀.slots w₀.line s m j ≡ true → Model.Closes (service p₀) j w₁ ds
     ends s m more w₁ next clashing j way =

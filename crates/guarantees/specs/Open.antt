@@ -13,8 +13,7 @@ use Rattle.model.specs.Service.{Outcome, goes, ends, stops, Answer, done, going,
 use Rattle.model.specs.Machine.{service, step, call}
 use Rattle.laws.specs.Basics.{All, In, all_at}
 use Rattle.laws.specs.Lists.{any_member}
-use Rattle.machine_words.specs.declared.Outcome as Entry
-use Rattle.machine_words.specs.Said.{told}
+use Rattle.machine_words.specs.Said.{CallResult, told}
 use Rattle.machine_words.specs.Calls.{Lent, After, tables_of, row_of, phase_of, misfit_of, refused, on_running, by_phase, called}
 use Rattle.machine_refinement.specs.Rep.{NowRep, OpenRep, SlotRep, Rep}
 use Rattle.machine_refinement.specs.Locks.{blank_word}
@@ -53,7 +52,7 @@ abbrev pub NothingOpen : Lent → Type 0
 NothingOpen x = (s : ℕ) → s < 8 → ClosedIn x s
 
 -- A host finds it out by the call itself: the entry's answer is this one, and where it is a number such as 32 or 37 nothing is altered.
-module _ {x y : Lent} {s : ℕ} {r : Entry.Outcome} (d : Does x (step s) r y) where
+module _ {x y : Lent} {s : ℕ} {r : CallResult} (d : Does x (step s) r y) where
   pub step_tells : told r ≡ asked x s
   step_tells = d.any.says
 
@@ -61,7 +60,7 @@ module _ {x y : Lent} {s : ℕ} {r : Entry.Outcome} (d : Does x (step s) r y) wh
   tells_only n e = subst (λ (a : Answer). Kept s a x y) (step_tells ∙ e) d.kept
 
 -- So a step of each slot, one after another, that answers 32 each time: nothing is open, and nothing was altered.
-each_asked : (ss : List ℕ) {x y : Lent} {rs : List Entry.Outcome} → Made x (map step ss) rs y → All (λ r. told r ≡ refuse 32) rs → All (ClosedIn x) ss × (y ≡ x)
+each_asked : (ss : List ℕ) {x y : Lent} {rs : List CallResult} → Made x (map step ss) rs y → All (λ r. told r ≡ refuse 32) rs → All (ClosedIn x) ss × (y ≡ x)
 each_asked [] Calls.none h = (tt, refl)
 each_asked (s ∷ ss) {x} (then {x₁ = x₁} d m) h =
     let closed-now = sym (step_tells d) ∙ h.0 in
@@ -69,7 +68,7 @@ each_asked (s ∷ ss) {x} (then {x₁ = x₁} d m) h =
     let rest = each_asked ss m h.1 in
     ((closed-now, subst (λ (l : Lent). All (ClosedIn l) ss) same rest.0), rest.1 ∙ same)
 
-pub asked_all : (ss : List ℕ) → ((s : ℕ) → s < 8 → In s ss) → {x y : Lent} {rs : List Entry.Outcome} → Made x (map step ss) rs y → All (λ r. told r ≡ refuse 32) rs
+pub asked_all : (ss : List ℕ) → ((s : ℕ) → s < 8 → In s ss) → {x y : Lent} {rs : List CallResult} → Made x (map step ss) rs y → All (λ r. told r ≡ refuse 32) rs
     → NothingOpen x × (y ≡ x)
 asked_all ss each {x} made h = let all = each_asked ss made h in (λ s low. all_at (ClosedIn x) ss s (each s low) all.0, all.1)
 

@@ -18,12 +18,10 @@ use Rattle.machine_words.specs.Calls.{Lent, lending, row_of, phase_of}
 use Rattle.machine_refinement.specs.Rep.{Rep, Fresh}
 use Rattle.machine_refinement.specs.Refines.{fresh_rep}
 use Rattle.guarantees.specs.Course.{AfterAll, called_all, all_refine, InOrder, in_order}
-use Rattle.machine_words.specs.declared.Outcome.{Outcome}
-use Rattle.machine_words.specs.Said.{told}
-use Rattle.cishmolaq.specs.declared.Answer as Start
+use Rattle.machine_words.specs.Said.{CallResult, told}
 use Rattle.model.specs.Told as Entry
 use Rattle.model.specs.Told.{Told, refusal, or_fault}
-use Rattle.cishmolaq.specs.Answers.{said, StartLeaves, Begins}
+use Rattle.cishmolaq.specs.Answers.{Done, said_done, StartLeaves, Begins}
 use Rattle.guarantees.specs.Made.{Made, made_is, told_same, rep_count}
 use Rattle.guarantees.specs.Open.{NothingOpen, nothing_phased}
 
@@ -34,14 +32,14 @@ abbrev pub program_of : List ℕ → Program
 program_of text = program (library text)
 
 -- What a start left that was not refused.
-start_left : (x : Lent) (r : Start.Answer) (y : Lent) → Begins x r y → said r ≡ Entry.done 0 → StartLeaves x (Entry.done 0) y
+start_left : (x : Lent) (r : Done) (y : Lent) → Begins x r y → said_done r ≡ Entry.done 0 → StartLeaves x (Entry.done 0) y
 start_left x r y h e = subst (λ (t : Told). StartLeaves x t y) e h.leaves
 
-pub start_fresh : (x : Lent) (r : Start.Answer) (y : Lent) → Begins x r y → said r ≡ Entry.done 0 → Fresh y (program_of y.text)
+pub start_fresh : (x : Lent) (r : Done) (y : Lent) → Begins x r y → said_done r ≡ Entry.done 0 → Fresh y (program_of y.text)
 start_fresh x r y h e = (start_left x r y h e).0
 
 -- Such a start was on the same text and values.
-pub start_accepted : (x : Lent) (r : Start.Answer) (y : Lent) → Begins x r y → said r ≡ Entry.done 0
+pub start_accepted : (x : Lent) (r : Done) (y : Lent) → Begins x r y → said_done r ≡ Entry.done 0
     → start_answer state_words y.text (length y.values) (length x.words) ≡ Entry.done 0
 start_accepted x r y begins e =
     let kept = (start_left x r y begins e).2 in
@@ -49,7 +47,7 @@ start_accepted x r y begins e =
     ∙ sym begins.says ∙ e
 
 -- What a list of calls after such a start left represents the world after the model's calls.
-pub made_rep : (x : Lent) (r : Start.Answer) (y : Lent) → Begins x r y → said r ≡ Entry.done 0 → {cs : List Call} {rs : List Outcome} {z : Lent} → Made y cs rs z
+pub made_rep : (x : Lent) (r : Done) (y : Lent) → Begins x r y → said_done r ≡ Entry.done 0 → {cs : List Call} {rs : List CallResult} {z : Lent} → Made y cs rs z
     → Rep z (program_of y.text) (left (program_of y.text) y.values cs)
 made_rep x r y begins e {cs} made =
     let p = program_of y.text in
@@ -57,14 +55,14 @@ made_rep x r y begins e {cs} made =
     (all_refine y p (fresh (service p) y.values) (fresh_rep y p (start_fresh x r y begins e)) cs).1
 
 -- Its answers are the model's.
-pub made_answers : (x : Lent) (r : Start.Answer) (y : Lent) → Begins x r y → said r ≡ Entry.done 0 → {cs : List Call} {rs : List Outcome} {z : Lent} → Made y cs rs z
+pub made_answers : (x : Lent) (r : Done) (y : Lent) → Begins x r y → said_done r ≡ Entry.done 0 → {cs : List Call} {rs : List CallResult} {z : Lent} → Made y cs rs z
     → map told rs ≡ answers (program_of y.text) y.values cs
 made_answers x r y begins e {cs} made =
     let p = program_of y.text in
     (made_is made).0 ∙ (all_refine y p (fresh (service p) y.values) (fresh_rep y p (start_fresh x r y begins e)) cs).0
 
 -- Which answers are compared: all that committed transactions got. (01, "The plain course": "each answer in a slot's list at its commit")
-pub made_compares : (x : Lent) (r : Start.Answer) (y : Lent) → Begins x r y → said r ≡ Entry.done 0 → {cs : List Call} {rs : List Outcome} {z : Lent} → Made y cs rs z
+pub made_compares : (x : Lent) (r : Done) (y : Lent) → Begins x r y → said_done r ≡ Entry.done 0 → {cs : List Call} {rs : List CallResult} {z : Lent} → Made y cs rs z
     → map (λ c. c.got) (course y.text y.values cs (map told rs)).compared ≡ committed_answers (service (program_of y.text)) [] cs (map told rs)
 made_compares x r y begins e {cs} made =
     subst (λ (l : List Answer). map (λ c. c.got) (course y.text y.values cs l).compared ≡ committed_answers (service (program_of y.text)) [] cs l)
@@ -90,7 +88,7 @@ start_again text count count' size size' e q h = go (read text) e
     go (refused n line) d = d
 
 -- What demand 3 requires of a list of calls after a start on `values`, by their answers and by what they left.
-pub record PlainCourse (text values : List ℕ) (cs : List Call) (rs : List Outcome) (z : Lent) : Type 0 where
+pub record PlainCourse (text values : List ℕ) (cs : List Call) (rs : List CallResult) (z : Lent) : Type 0 where
   -- "ends with the fields .. of the plain course"
   pub same_fields : z.values ≡ (course text values cs (map told rs)).fields
   -- "and gave committed transactions the answers .. of the plain course" ..
@@ -98,13 +96,13 @@ pub record PlainCourse (text values : List ℕ) (cs : List Call) (rs : List Outc
   -- .. where none is left out: compared are all answers that committed transactions got, in order, by the calls and their answers alone.
   pub none_left_out : map (λ c. c.got) (course text values cs (map told rs)).compared ≡ committed_answers (service (program_of text)) [] cs (map told rs)
   -- "and from then on the machine behaves as after a new start on those fields"
-  pub as_new : (state : List ℕ) (r : Start.Answer) (new : Lent) → Begins (lending text state z.values) r new → said r ≡ Entry.done 0
-      → (more : List Call) {rs₁ rs₂ : List Outcome} {z₁ z₂ : Lent} → Made z more rs₁ z₁ → Made new more rs₂ z₂ → (rs₁ ≡ rs₂) × (z₁.values ≡ z₂.values)
+  pub as_new : (state : List ℕ) (r : Done) (new : Lent) → Begins (lending text state z.values) r new → said_done r ≡ Entry.done 0
+      → (more : List Call) {rs₁ rs₂ : List CallResult} {z₁ z₂ : Lent} → Made z more rs₁ z₁ → Made new more rs₂ z₂ → (rs₁ ≡ rs₂) × (z₁.values ≡ z₂.values)
   -- .. which a new start accepts, in any state that is long enough.
   pub starts : (size : ℕ) → state_words ≤ size → start_answer state_words text (length z.values) size ≡ Entry.done 0
 
 -- "This is a single claim about the whole list, not one for each call."
-pub demand_3 : (x : Lent) (r : Start.Answer) (y : Lent) → Begins x r y → said r ≡ Entry.done 0 → {cs : List Call} {rs : List Outcome} {z : Lent} → Made y cs rs z
+pub demand_3 : (x : Lent) (r : Done) (y : Lent) → Begins x r y → said_done r ≡ Entry.done 0 → {cs : List Call} {rs : List CallResult} {z : Lent} → Made y cs rs z
     → NothingOpen z → PlainCourse y.text y.values cs rs z
 unfolding course
 demand_3 x r y begins e {cs} {rs} {z} made shut = record {

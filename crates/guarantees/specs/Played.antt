@@ -12,11 +12,9 @@ use Rattle.model.specs.Told as Entry
 use Rattle.model.specs.Told.{Told, refusal, or_fault}
 use Rattle.model.specs.Machine.{Call, start_answer, played_by, played_on, played}
 use Rattle.theory.specs.CommitOrder.{left, played_is}
-use Rattle.machine_words.specs.declared.Outcome.{Outcome}
-use Rattle.machine_words.specs.Said.{told}
+use Rattle.machine_words.specs.Said.{CallResult, told}
 use Rattle.machine_words.specs.Calls.{Lent, row_of, phase_of, misfit_of, called}
-use Rattle.cishmolaq.specs.declared.Answer as Start
-use Rattle.cishmolaq.specs.Answers.{said, Begins}
+use Rattle.cishmolaq.specs.Answers.{Done, said_done, Begins}
 use Rattle.guarantees.specs.Counts.{step_narrow, step_wide, same_step}
 use Rattle.guarantees.specs.Made.{Made}
 use Rattle.guarantees.specs.Open.{RunningIn, running_phase}
@@ -45,7 +43,7 @@ played_on_law text values size cs e = go (read text) e
 
 -- What a list of calls answered and left is what the model plays: the rows of the table of examples, which cite `played`, speak of the
 -- entries.
-pub as_played : (x : Lent) (r : Start.Answer) (y : Lent) → Begins x r y → said r ≡ Entry.done 0 → {cs : List Call} {rs : List Outcome} {z : Lent} → Made y cs rs z
+pub as_played : (x : Lent) (r : Done) (y : Lent) → Begins x r y → said_done r ≡ Entry.done 0 → {cs : List Call} {rs : List CallResult} {z : Lent} → Made y cs rs z
     → (map told rs, z.values) ≡ played y.text y.values cs
 as_played x r y begins e {cs} {rs} {z} made =
     ap₂ (λ (l : List Answer) (k : List ℕ). (l, k)) (made_answers x r y begins e made) (sym (made_rep x r y begins e made).fields)
@@ -53,7 +51,7 @@ as_played x r y begins e {cs} {rs} {z} made =
     ∙ sym (played_on_law y.text y.values (length x.words) cs (start_accepted x r y begins e))
 
 -- Ticket 5 by the call itself: a step that is not refused is the one that counts in 64 bits.
-pub step_as_wide : (x : Lent) (r : Start.Answer) (y : Lent) → Begins x r y → said r ≡ Entry.done 0 → {cs : List Call} {rs : List Outcome} {z : Lent} → Made y cs rs z
+pub step_as_wide : (x : Lent) (r : Done) (y : Lent) → Begins x r y → said_done r ≡ Entry.done 0 → {cs : List Call} {rs : List CallResult} {z : Lent} → Made y cs rs z
     → (s : ℕ) → s < 8 → RunningIn z s → called z (step s) ≡ step_wide z s
 unfolding called
 step_as_wide x r y begins e {cs} {rs} {z} made s h run =

@@ -23,11 +23,9 @@ use Rattle.machine_words.specs.Calls.{Lent, row_of, phase_of}
 use Rattle.machine_refinement.specs.Rep.{Rep, Fresh}
 use Rattle.guarantees.specs.Course.{AfterAll, called_all, all_refine}
 use Rattle.guarantees.specs.Moment.{notes_back, AtMoment, at_moment}
-use Rattle.machine_words.specs.declared.Outcome.{Outcome}
-use Rattle.machine_words.specs.Said.{told}
-use Rattle.cishmolaq.specs.declared.Answer as Start
+use Rattle.machine_words.specs.Said.{CallResult, told}
 use Rattle.model.specs.Told as Entry
-use Rattle.cishmolaq.specs.Answers.{said, Begins}
+use Rattle.cishmolaq.specs.Answers.{Done, said_done, Begins}
 use Rattle.cishmolaq.specs.Promises.{Does}
 use Rattle.guarantees.specs.Made as Calls
 use Rattle.guarantees.specs.Made.{Made, then, made_is}
@@ -37,12 +35,12 @@ use Rattle.guarantees.specs.PlainCourse.{program_of, start_fresh, made_rep, made
 -- ---- lists of calls made
 
 -- One list of calls after another.
-made_append : {x y z : Lent} {cs ds : List Call} {rs ss : List Outcome} → Made x cs rs y → Made y ds ss z → Made x (cs ++ ds) (rs ++ ss) z
+made_append : {x y z : Lent} {cs ds : List Call} {rs ss : List CallResult} → Made x cs rs y → Made y ds ss z → Made x (cs ++ ds) (rs ++ ss) z
 made_append Calls.none n = n
 made_append (then d m) n = then d (made_append m n)
 
 -- An answer for each call.
-made_count : {x y : Lent} {cs : List Call} {rs : List Outcome} → Made x cs rs y → length (map told rs) ≡ length cs
+made_count : {x y : Lent} {cs : List Call} {rs : List CallResult} → Made x cs rs y → length (map told rs) ≡ length cs
 made_count Calls.none = refl
 made_count (then d m) = ap suc (made_count m)
 
@@ -76,24 +74,24 @@ run_alone p (y ∷ ys) fields h = go (alone p y.message fields) refl h.0 (λ aft
         (after, e ∙ ap (λ (n : ℕ). some (n, after)) same, more after rest)
 
 -- What Ticket 4 requires of a list of calls after a start on `values`, by their answers and by what they left.
-pub record Seen (text values : List ℕ) (cs : List Call) (rs : List Outcome) (z : Lent) : Type 0 where
+pub record Seen (text values : List ℕ) (cs : List Call) (rs : List CallResult) (z : Lent) : Type 0 where
   -- "At each moment, undoing all open transactions must give the fields of the committed ones run in commit order": by their notes ..
   pub undone : notes_back z.words 8 z.values ≡ (course text values cs (map told rs)).fields
   -- .. and by the calls: once every open slot was aborted, in whatever order, none is open and the values are the course's.
-  pub aborted : (ss : List ℕ) → ((s : ℕ) → OpenIn z s → In s ss) → {rs₂ : List Outcome} {z₂ : Lent} → Made z (map abort ss) rs₂ z₂
+  pub aborted : (ss : List ℕ) → ((s : ℕ) → OpenIn z s → In s ss) → {rs₂ : List CallResult} {z₂ : Lent} → Made z (map abort ss) rs₂ z₂
       → NothingOpen z₂ × (z₂.values ≡ (course text values cs (map told rs)).fields)
   -- "The answers that any transaction got": "still open", alone right after those committed "before now" ..
   pub open_alone : (s : ℕ) → OpenIn z s → GotAlone text (course text values cs (map told rs)) s
   -- .. "later undone" and "stopped", alone right after those "committed before its end", the call that ends it being the next ..
-  pub undone_alone : (s : ℕ) {r : Outcome} {z₂ : Lent} → Does z (abort s) r z₂ → told r ≡ done
+  pub undone_alone : (s : ℕ) {r : CallResult} {z₂ : Lent} → Does z (abort s) r z₂ → told r ≡ done
       → GotAlone text (course text values cs (map told rs)) s
-  pub stopped_alone : (s : ℕ) {r : Outcome} {z₂ : Lent} → Does z (step s) r z₂ → told r ≡ stopped
+  pub stopped_alone : (s : ℕ) {r : CallResult} {z₂ : Lent} → Does z (step s) r z₂ → told r ≡ stopped
       → GotAlone text (course text values cs (map told rs)) s
   -- .. and those that are committed ..
   pub committed_alone : All Right (course text values cs (map told rs)).compared
   -- .. also by the runs themselves: the sends of one that is open, and of one that the next call commits, run alone, give its answers.
   pub open_runs : (s : ℕ) → OpenIn z s → RunAlone (program_of text) ((course text values cs (map told rs)).slots s).list (course text values cs (map told rs)).fields
-  pub committed_runs : (s : ℕ) {r : Outcome} {z₂ : Lent} → Does z (commit s) r z₂ → told r ≡ done
+  pub committed_runs : (s : ℕ) {r : CallResult} {z₂ : Lent} → Does z (commit s) r z₂ → told r ≡ done
       → RunAlone (program_of text) ((course text values cs (map told rs)).slots s).list (course text values cs (map told rs)).fields
   -- No answer is left out of these: those in the list of slot s are all that it got since it last closed, and those of committed
   -- transactions all that they got, in order, by the calls and their answers alone.
@@ -102,7 +100,7 @@ pub record Seen (text values : List ℕ) (cs : List Call) (rs : List Outcome) (z
   pub committed_all : map (λ c. c.got) (course text values cs (map told rs)).compared ≡ committed_answers (service (program_of text)) [] cs (map told rs)
 
 -- What the tablets saw, after any list of calls.
-pub what_was_seen : (x : Lent) (r : Start.Answer) (y : Lent) → Begins x r y → said r ≡ Entry.done 0 → {cs : List Call} {rs : List Outcome} {z : Lent} → Made y cs rs z
+pub what_was_seen : (x : Lent) (r : Done) (y : Lent) → Begins x r y → said_done r ≡ Entry.done 0 → {cs : List Call} {rs : List CallResult} {z : Lent} → Made y cs rs z
     → Seen y.text y.values cs rs z
 unfolding course
 what_was_seen x r y begins e {cs} {rs} {z} made =
@@ -168,13 +166,13 @@ what_was_seen x r y begins e {cs} {rs} {z} made =
         → RunAlone p ((course text values cs (map told rs)).slots s).list (course text values cs (map told rs)).fields
     runs s = run_alone p ((course text values cs (map told rs)).slots s).list (course text values cs (map told rs)).fields
 
-    closes : (ss : List ℕ) → ((s : ℕ) → OpenIn z s → In s ss) → {rs₂ : List Outcome} {z₂ : Lent} → Made z (map abort ss) rs₂ z₂ → NothingOpen z₂
+    closes : (ss : List ℕ) → ((s : ℕ) → OpenIn z s → In s ss) → {rs₂ : List CallResult} {z₂ : Lent} → Made z (map abort ss) rs₂ z₂ → NothingOpen z₂
     closes ss all {z₂ = z₂} more =
         let w₂ = (run_calls (service p) w (map abort ss)).1 in
         let rep₂ : Rep z₂ p w₂ = subst (λ (l : Lent). Rep l p w₂) (sym (made_is more).1) (all_refine z p w rep (map abort ss)).1 in
         all_closed z₂ p w₂ rep₂ (aborts_close (service p) ss w (line_open (service p) values cs) (λ s h t q. all s (opened_in s h t q)))
 
-    values_are : (ss : List ℕ) {rs₂ : List Outcome} {z₂ : Lent} → Made z (map abort ss) rs₂ z₂ → NothingOpen z₂
+    values_are : (ss : List ℕ) {rs₂ : List CallResult} {z₂ : Lent} → Made z (map abort ss) rs₂ z₂ → NothingOpen z₂
         → z₂.values ≡ (course text values cs (map told rs)).fields
     values_are ss {rs₂} more shut =
         (demand_3 x r y begins e (made_append made more) shut).same_fields

@@ -6,9 +6,8 @@ use Rattle.model.specs.Told as Entry
 use Rattle.theory.specs.CommitOrder.{left}
 use Rattle.machine_words.specs.Calls.{Lent, row_of}
 use Rattle.guarantees.specs.Counts.{step_narrow, step_wide, count_early, same_step}
-use Rattle.machine_words.specs.declared.Outcome.{Outcome}
-use Rattle.cishmolaq.specs.declared.Answer as Start
-use Rattle.cishmolaq.specs.Answers.{said, Begins}
+use Rattle.machine_words.specs.Said.{CallResult}
+use Rattle.cishmolaq.specs.Answers.{Done, said_done, Begins}
 use Rattle.guarantees.specs.Made.{Made}
 use Rattle.guarantees.specs.Open.{RunningIn, running_phase}
 use Rattle.guarantees.specs.PlainCourse.{program_of, made_rep}
@@ -20,7 +19,7 @@ pub record Counted (x : Lent) (s : ℕ) : Type 0 where
   pub same : step_narrow x s ≡ step_wide x s
 
 -- After any list of calls.
-pub steps_counted : (x : Lent) (r : Start.Answer) (y : Lent) → Begins x r y → said r ≡ Entry.done 0 → {cs : List Call} {rs : List Outcome} {z : Lent} → Made y cs rs z
+pub steps_counted : (x : Lent) (r : Done) (y : Lent) → Begins x r y → said_done r ≡ Entry.done 0 → {cs : List Call} {rs : List CallResult} {z : Lent} → Made y cs rs z
     → (s : ℕ) → s < 8 → RunningIn z s → Counted z s
 steps_counted x r y begins e {cs} {rs} {z} made s h run =
     let p = program_of y.text in

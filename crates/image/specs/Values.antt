@@ -1,5 +1,6 @@
 -- The values of an object by counting, and the invariant of a loop over the words of its line.
-use Rattle.std.specs.Prelude.{ℕ, zero, suc, ◌+◌, ◌-◌, ◌≤◌, ◌<◌, ◌≡◌, refl, Bool, true, false, cond, List, [], ◌∷◌, ◌++◌, map, length, get_or, take, drop, replicate, ltb}
+use Rattle.std.specs.Prelude.{ℕ, zero, suc, ◌+◌, ◌-◌, ◌≤◌, ◌<◌, ◌≡◌, refl, Bool, true, false, cond, List, [], ◌∷◌, ◌++◌, map, length, get_or, take, drop, replicate, ltb, Some, None, unwrap_or}
+use Rattle.std.specs.Prelude as rust
 use Rattle.std.proofs.Common.{sym, ap, ◌∙◌, add-one, arith, length-append, length-take, get_or-take, get_or-append-add, ext_get_or, ltb-true, ltb-false}
 use Rattle.std.proofs.Math.Option.{Option, none as nothing, some}
 use Rattle.std.proofs.lemmas.List.{length-map, length-replicate, get_or-replicate}
@@ -7,25 +8,36 @@ use Rattle.std.proofs.Math.ListN.{get_or-append, get_or-map, get_or-eq_default}
 use Rattle.layout.specs.Layout.{object_class_at, object_line_at}
 use Rattle.model.specs.Base.{upto}
 use Rattle.model.specs.Word.{is_number, decimal}
-use Rattle.text_lex.specs.Number.{number_of}
-use Rattle.text_lex.specs.Piece.{words_after, first, others, end_after, others_after}
+use Rattle.text_lex.specs.Number.{number_of, said}
+use Rattle.text_lex.specs.Piece.{words_after, first, others}
+use Rattle.text_lex.specs.Words.{left}
+use Rattle.text_lex.specs.declared.Words.{Words}
+use Rattle.std.specs.Iterator.{YieldsFirstRef}
+use Rattle.std.proofs.Common.{Bor}
 use Rattle.catalog.specs.View.{part_of, value_of, object_word}
 use Rattle.laws.specs.Upto.{length_upto, get_d_upto}
 use Rattle.catalog.specs.Look.{shown_count}
 use Rattle.image.specs.Written.{values_from}
 
 -- The value of a word, by the number that `text_lex` reads in it.
-abbrev pub or_zero : Option ℕ → ℕ
+abbrev or_zero : Option ℕ → ℕ
 or_zero nothing = 0
 or_zero (some n) = n
 
-pub value_said : (w : List ℕ) → or_zero (number_of w) ≡ value_of w
+value_said : (w : List ℕ) → or_zero (number_of w) ≡ value_of w
 unfolding number_of value_of
 value_said w = go (is_number w)
   where
     go : (t : Bool) → or_zero (cond t (some (decimal 0 w)) nothing) ≡ cond t (decimal 0 w) 0
     go true = refl
     go false = refl
+
+pub value_unwrapped : (r : rust.Option ℕ) (w : List ℕ) → said r ≡ number_of w → unwrap_or r 0 ≡ value_of w
+value_unwrapped r w e = unwrapped r ∙ ap or_zero e ∙ value_said w
+  where
+    unwrapped : (r : rust.Option ℕ) → unwrap_or r 0 ≡ or_zero (said r)
+    unwrapped (Some n) = refl
+    unwrapped None = refl
 
 module _ (f : List ℕ → ℕ) (none : f [] ≡ 0) (ps : List (List ℕ)) (n : ℕ) where
   element : (i : ℕ) → i < n → get_or (map f ps ++ replicate n 0) i 0 ≡ f (get_or ps i [])
@@ -71,10 +83,18 @@ others_at [] (suc j) = refl
 others_at (p ∷ ps) zero = refl
 others_at (p ∷ ps) (suc j) = others_at ps j
 
-module _ (line : List ℕ) (place j : ℕ) (at : words_after (drop place line) ≡ drop j (words_after line)) where
-  pub word_at : first (words_after (drop place line)) ≡ get_or (words_after line) j []
-  word_at = ap first at ∙ first_at (words_after line) j
+-- The next word, which counts as empty where none is left, and the words left after it.
+taken_first : (r : rust.Option (Bor (List ℕ))) (none : Bor (List ℕ)) (u v : Words) → none.now ≡ [] → YieldsFirstRef left u r v → (unwrap_or r none).now ≡ first (left u)
+taken_first (Some x) none u v e h = ap first (sym h)
+taken_first None none u v e h = e ∙ ap first (sym h.0)
 
-  pub words_behind : (end : ℕ) → end ≡ end_after 32 line place → words_after (drop end line) ≡ drop (j + 1) (words_after line)
-  words_behind end e =
-      ap (λ (k : ℕ). words_after (drop k line)) e ∙ others_after 32 line place ∙ ap others at ∙ others_at (words_after line) j ∙ rw (← add-one j)
+taken_others : (r : rust.Option (Bor (List ℕ))) (u v : Words) → YieldsFirstRef left u r v → left v ≡ others (left u)
+taken_others (Some x) u v h = ap others (sym h)
+taken_others None u v h = h.1 ∙ ap others (sym h.0)
+
+module _ (ws : List (List ℕ)) (j : ℕ) (r : rust.Option (Bor (List ℕ))) (u v : Words) (at : left u ≡ drop j ws) (h : YieldsFirstRef left u r v) where
+  pub word_at : (none : Bor (List ℕ)) → none.now ≡ [] → (unwrap_or r none).now ≡ get_or ws j []
+  word_at none e = taken_first r none u v e h ∙ ap first at ∙ first_at ws j
+
+  pub words_behind : left v ≡ drop (j + 1) ws
+  words_behind = taken_others r u v h ∙ ap others at ∙ others_at ws j ∙ rw (← add-one j)

@@ -17,10 +17,8 @@ fn method_count(tables: &[u32]) -> u32
 {
     let classes = catalog::class_count(tables);
     let mut count = 0;
-    let mut class = 0;
-    while class < classes {
-        count += catalog::member_count(tables, class, 1);
-        class += 1;
+    for class in 0..classes {
+        count += catalog::member_count(tables, class, layout::METHODS);
     }
     count
 }
@@ -54,8 +52,7 @@ fn put_places(tables: &[u32], image: &mut [u8], at: usize) -> usize
 {
     let count = catalog::statement_count(tables);
     let mut end = at;
-    let mut statement = 0;
-    while statement < count {
+    for statement in 0..count {
         let word = memory::get(tables, layout::STATEMENTS_AT + statement as usize);
         end = output::put_pair(
             image,
@@ -63,7 +60,6 @@ fn put_places(tables: &[u32], image: &mut [u8], at: usize) -> usize
             word / layout::PART_UNIT,
             word % layout::PART_UNIT,
         );
-        statement += 1;
     }
     end
 }
@@ -89,10 +85,8 @@ pub fn value_count(tables: &[u32]) -> usize
 {
     let objects = catalog::object_count(tables);
     let mut count = 0;
-    let mut object = 0;
-    while object < objects {
-        count += catalog::shown_count(tables, catalog::class_of(tables, object), 0);
-        object += 1;
+    for object in 0..objects {
+        count += catalog::shown_count(tables, catalog::class_of(tables, object), layout::FIELDS);
     }
     count as usize
 }
@@ -103,10 +97,8 @@ pub fn write_values(text: &[u8], tables: &[u32], values: &mut [u32])
 {
     let objects = catalog::object_count(tables);
     let mut at = 0;
-    let mut object = 0;
-    while object < objects {
+    for object in 0..objects {
         at = value::put_values(text, tables, object, values, at);
-        object += 1;
     }
 }
 

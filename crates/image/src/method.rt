@@ -2,13 +2,14 @@
 // line.
 ghost use Rattle.std.specs.Prelude.{◌+◌, ◌≤◌, ◌<◌, ◌^◌, ◌≡◌};
 ghost use Rattle.model.specs.Base.{upto};
+ghost use Rattle.catalog.specs.View.{class_word};
 ghost use Rattle.image.specs.Written.{each_method, letters_from, line_from};
 ghost use Rattle.output.specs.Append.{Appended};
 ghost use Rattle.image.specs.Cells.{cell_from, methods_from, name_from, vector_from, flags_from, mark_of};
 
 use output::{put_byte, put_bytes, put_pair, put_u32};
 
-// The part of a method that is written.
+// The part of a method that is written. No closure: each loop says by it what it has written so far (`cell_from`).
 #[derive(Clone, Copy)]
 pub enum Part {
     Masks,
@@ -48,11 +49,9 @@ fn put_marks(
     ensures { Appended (upto (mark_of first second third marks.now) count) out.old at result out.new }
 {
     let mut end = at;
-    let mut place = 0;
-    while place < count {
+    for place in 0..count {
         let byte = mark(place, first, second, third, marks);
         end = put_byte(out, end, byte);
-        place += 1;
     }
     end
 }
@@ -77,88 +76,75 @@ fn put_name(text: &[u8], word: u32, out: &mut [u8], at: usize) -> usize
     put_byte(out, at, b' ')
 }
 
+// A method of a class by its place there, with the text and the tables that tell of it.
+#[derive(Clone, Copy)]
+struct Method<'a> {
+    text: &'a [u8],
+    tables: &'a [u32],
+    class: u32,
+    place: u32,
+}
+
+impl Method<'_> {
+    // The method's word in a row of the class's words.
+    fn word(&self, row: u32) -> u32
+        requires { self.now.place + row < 2 ^ 32 }
+        ensures { result ≡ class_word self.now.tables.now self.now.class (row + self.now.place) }
+    {
+        catalog::class_word(self.tables, self.class, row + self.place)
+    }
+}
+
 // Writes a method's letters and a space.
-fn put_vector(tables: &[u32], class: u32, method: u32, out: &mut [u8], at: usize) -> usize
-    requires { (method < 32) × (at + 33 < 2 ^ 64) }
-    ensures { Appended (vector_from tables.now class method) out.old at result out.new }
+fn put_vector(method: &Method<'_>, out: &mut [u8], at: usize) -> usize
+    requires { (method.now.place < 32) × (at + 33 < 2 ^ 64) }
+    ensures { Appended (vector_from method.now.tables.now method.now.class method.now.place) out.old at result out.new }
 {
-    let fields = catalog::member_count(tables, class, 0);
-    let read = catalog::class_word(tables, class, layout::READ_MASKS_AT + method);
-    let write = catalog::class_word(tables, class, layout::WRITE_MASKS_AT + method);
-    let add = catalog::class_word(tables, class, layout::ADD_MASKS_AT + method);
+    let fields = catalog::member_count(method.tables, method.class, layout::FIELDS);
+    let read = method.word(layout::READ_MASKS_AT);
+    let write = method.word(layout::WRITE_MASKS_AT);
+    let add = method.word(layout::ADD_MASKS_AT);
     let at = put_letters(out, at, fields, read, write, add);
     put_byte(out, at, b' ')
 }
 
 // Writes `y` for each method that a method commutes with and `n` for each other, and a line feed.
-fn put_flags(tables: &[u32], class: u32, method: u32, out: &mut [u8], at: usize) -> usize
-    requires { (method < 32) × (at + 33 < 2 ^ 64) }
-    ensures { Appended (flags_from tables.now class method) out.old at result out.new }
+fn put_flags(method: &Method<'_>, out: &mut [u8], at: usize) -> usize
+    requires { (method.now.place < 32) × (at + 33 < 2 ^ 64) }
+    ensures { Appended (flags_from method.now.tables.now method.now.class method.now.place) out.old at result out.new }
 {
-    let methods = catalog::member_count(tables, class, 1);
-    let mask = catalog::class_word(tables, class, layout::COMMUTING_AT + method);
+    let methods = catalog::member_count(method.tables, method.class, layout::METHODS);
+    let mask = method.word(layout::COMMUTING_AT);
     let at = put_marks(out, at, methods, mask, mask, mask, b"ynnn");
     put_byte(out, at, b'\n')
 }
 
 // Writes a method's line.
-fn put_line(
-    text: &[u8],
-    tables: &[u32],
-    class: u32,
-    method: u32,
-    out: &mut [u8],
-    at: usize,
-) -> usize
-    requires { (method < 32) × (at + 130 < 2 ^ 64) }
-    ensures { Appended (line_from text.now tables.now class method) out.old at result out.new }
+fn put_line(method: &Method<'_>, out: &mut [u8], at: usize) -> usize
+    requires { (method.now.place < 32) × (at + 130 < 2 ^ 64) }
+    ensures { Appended (line_from method.now.text.now method.now.tables.now method.now.class method.now.place) out.old at result out.new }
 {
-    let at = put_name(
-        text,
-        catalog::class_word(tables, class, layout::CLASS_NAME_AT),
-        out,
-        at,
-    );
-    let at = put_name(
-        text,
-        catalog::class_word(tables, class, layout::METHOD_NAMES_AT + method),
-        out,
-        at,
-    );
-    let at = put_vector(tables, class, method, out, at);
-    put_flags(tables, class, method, out, at)
+    let class = catalog::class_word(method.tables, method.class, layout::CLASS_NAME_AT);
+    let at = put_name(method.text, class, out, at);
+    let at = put_name(method.text, method.word(layout::METHOD_NAMES_AT), out, at);
+    let at = put_vector(method, out, at);
+    put_flags(method, out, at)
 }
 
 // Writes one part of a method.
-fn put_cell(
-    text: &[u8],
-    tables: &[u32],
-    part: Part,
-    class: u32,
-    method: u32,
-    out: &mut [u8],
-    at: usize,
-) -> usize
-    requires { (method < 32) × (at + 130 < 2 ^ 64) }
-    ensures { Appended (cell_from text.now tables.now part class method) out.old at result out.new }
+fn put_cell(method: &Method<'_>, part: Part, out: &mut [u8], at: usize) -> usize
+    requires { (method.now.place < 32) × (at + 130 < 2 ^ 64) }
+    ensures { Appended (cell_from method.now.text.now method.now.tables.now part method.now.class method.now.place) out.old at result out.new }
 {
     match part {
         Part::Masks => {
-            let read = catalog::class_word(tables, class, layout::READ_MASKS_AT + method);
-            let write = catalog::class_word(tables, class, layout::WRITE_MASKS_AT + method);
+            let read = method.word(layout::READ_MASKS_AT);
+            let write = method.word(layout::WRITE_MASKS_AT);
             put_pair(out, at, read, write)
         }
-        Part::Commuting => put_u32(
-            out,
-            at,
-            catalog::class_word(tables, class, layout::COMMUTING_AT + method),
-        ),
-        Part::Adds => put_u32(
-            out,
-            at,
-            catalog::class_word(tables, class, layout::ADD_MASKS_AT + method),
-        ),
-        Part::Line => put_line(text, tables, class, method, out, at),
+        Part::Commuting => put_u32(out, at, method.word(layout::COMMUTING_AT)),
+        Part::Adds => put_u32(out, at, method.word(layout::ADD_MASKS_AT)),
+        Part::Line => put_line(method, out, at),
     }
 }
 
@@ -174,12 +160,16 @@ fn put_methods(
     requires { at + 4160 < 2 ^ 64 }
     ensures { Appended (methods_from text.now tables.now part class) out.old at result out.new }
 {
-    let count = catalog::member_count(tables, class, 1);
+    let count = catalog::member_count(tables, class, layout::METHODS);
     let mut end = at;
-    let mut method = 0;
-    while method < count {
-        end = put_cell(text, tables, part, class, method, out, end);
-        method += 1;
+    for method in 0..count {
+        let one = Method {
+            text,
+            tables,
+            class,
+            place: method,
+        };
+        end = put_cell(&one, part, out, end);
     }
     end
 }
@@ -197,10 +187,8 @@ pub(crate) fn put_classes(
 {
     let count = catalog::class_count(tables);
     let mut end = at;
-    let mut class = 0;
-    while class < count {
+    for class in 0..count {
         end = put_methods(text, tables, part, class, out, end);
-        class += 1;
     }
     end
 }

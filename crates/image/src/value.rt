@@ -8,11 +8,7 @@ ghost use Rattle.output.specs.Append.{Appended};
 fn value_of(word: &[u8]) -> u32
     ensures { result ≡ value_of word.now }
 {
-    let number = text_lex::number_of(word);
-    match number {
-        text_lex::Number::Value(value) => value,
-        text_lex::Number::NoNumber => 0,
-    }
+    text_lex::number_of(word).unwrap_or(0)
 }
 
 // Writes the values of an object, absent ones as 0.
@@ -26,21 +22,19 @@ pub(crate) fn put_values(
     requires { at + 32 < 2 ^ 64 }
     ensures { Appended (values_from text.now tables.now object) values.old at result values.new }
 {
-    let count = catalog::shown_count(tables, catalog::class_of(tables, object), 0) as usize;
+    let count = catalog::shown_count(
+        tables,
+        catalog::class_of(tables, object),
+        layout::FIELDS,
+    ) as usize;
     let line = catalog::part_of(
         text,
         catalog::object_word(tables, object, layout::OBJECT_LINE_AT),
     );
-    let mut place = 0;
-    let mut field = 0;
-    while field < count {
-        memory::put(
-            values,
-            at + field,
-            value_of(text_lex::word_after(line, place)),
-        );
-        place = text_lex::word_end_after(line, place);
-        field += 1;
+    let mut words = text_lex::words_after(line, 0);
+    for field in 0..count {
+        let word = words.next().unwrap_or(b"");
+        memory::put(values, at + field, value_of(word));
     }
-    at + field
+    at + count
 }

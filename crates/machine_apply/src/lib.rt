@@ -1,31 +1,23 @@
 // Carries out a turn on a slot's row and the values.
 #![tactic(auto)]
 
-ghost use Rattle.std.specs.Prelude.{◌≡◌, ◌-◌, length, slice_set};
+ghost use Rattle.std.specs.Prelude.{◌≡◌, Ok, length, slice_set};
 ghost use Rattle.layout.specs.Layout.{phase_at, row_words};
 ghost use Rattle.model.specs.Message.{changed};
 ghost use Rattle.machine_words.specs.Row.{stepped, passed, skip_row, call_row, reply_row, back_row, carried, assign, stop};
 ghost use Rattle.machine_words.specs.Said.{said_change, said_turn};
 ghost use Rattle.machine_apply.specs.Carried.{Leaves};
 
-use machine_words::{Change, Turn};
-
-// What a step answers.
-#[derive(Clone, Copy)]
-pub enum Said {
-    Unfit,
-    Going,
-    Halted,
-    Answered(u32),
-}
+use machine_words::{Change, Outcome, Turn};
+use refusals::Refusal;
 
 // Counts one more step on this object, in 16 bits.
 fn count_step(row: &mut [u32])
     ensures { row.new ≡ stepped row.old }
 {
     let steps = (memory::get(row, layout::STEPS_AT) % 65536) as u16;
-    let more = std::num::wrapping_add_u16(steps, 1);
-    memory::put(row, layout::STEPS_AT, more as u32);
+    let more = steps.wrapping_add(1);
+    memory::put(row, layout::STEPS_AT, u32::from(more));
 }
 
 // Takes the latest activation on to its next statement.
@@ -34,12 +26,7 @@ fn pass(row: &mut [u32])
 {
     let activation = machine_words::top(row);
     let next = machine_words::act(row, activation, layout::NEXT_AT);
-    machine_words::put_act(
-        row,
-        activation,
-        layout::NEXT_AT,
-        std::num::wrapping_add_u32(next, 1),
-    );
+    machine_words::put_act(row, activation, layout::NEXT_AT, next.wrapping_add(1));
 }
 
 // Passes over a statement.
@@ -61,20 +48,13 @@ fn reply(row: &mut [u32], value: u32)
     count_step(row);
 }
 
-// The difference of two numbers; 0 where the second is greater.
-fn less(number: u32, by: u32) -> u32
-    ensures { result ≡ number - by }
-{
-    if by <= number { number - by } else { 0 }
-}
-
 // Ends the latest activation; its reply is the caller's `got`.
 fn back(row: &mut [u32], value: u32)
     ensures { row.new ≡ back_row value row.old }
 {
     let depth = memory::get(row, layout::DEPTH_AT);
-    memory::put(row, layout::DEPTH_AT, less(depth, 1));
-    machine_words::put_act(row, less(depth, 2), layout::GOT_AT, value);
+    memory::put(row, layout::DEPTH_AT, depth.saturating_sub(1));
+    machine_words::put_act(row, depth.saturating_sub(2), layout::GOT_AT, value);
     count_step(row);
 }
 
@@ -86,7 +66,7 @@ fn call(row: &mut [u32], first: u32, end: u32, argument: u32)
     pass(row);
     machine_words::new_act(row, depth, first, end, argument);
     memory::put(row, layout::CALLED_AT, 1);
-    memory::put(row, layout::DEPTH_AT, std::num::wrapping_add_u32(depth, 1));
+    memory::put(row, layout::DEPTH_AT, depth.wrapping_add(1));
     count_step(row);
 }
 
@@ -96,13 +76,13 @@ fn changed(change: Change, old: u32, value: u32) -> u32
 {
     match change {
         Change::Replace => value,
-        Change::Increase => std::num::wrapping_add_u32(old, value),
+        Change::Increase => old.wrapping_add(value),
     }
 }
 
 // Changes a value, after its undo note.
 fn assign(row: &mut [u32], values: &mut [u32], change: Change, place: usize, value: u32)
-    ensures { Leaves (carried row.old values.old (assign (said_change change) place value)) Said.Going row.new values.new }
+    ensures { Leaves (carried row.old values.old (assign (said_change change) place value)) (Ok Outcome.Going) row.new values.new }
 {
     let old = memory::get(values, place);
     machine_undo::note(row, change, place, old, value);
@@ -113,7 +93,7 @@ fn assign(row: &mut [u32], values: &mut [u32], change: Change, place: usize, val
 // Undoes the transaction: puts its values back and frees its row.
 fn stop(row: &mut [u32], values: &mut [u32])
     requires { length row.old ≡ row_words }
-    ensures { Leaves (carried row.old values.old stop) Said.Halted row.new values.new }
+    ensures { Leaves (carried row.old values.old stop) (Ok Outcome.Stopped) row.new values.new }
 {
     machine_undo::release::roll_back(row, values);
 }
@@ -125,44 +105,31 @@ fn finish(row: &mut [u32])
     memory::put(row, layout::PHASE_AT, layout::IDLE);
 }
 
-// Carries out a turn on the slot's row and the values.
-pub fn carry(row: &mut [u32], values: &mut [u32], turn: Turn) -> Said
+// Carries out a turn on the slot's row and the values; refused where there is no turn.
+pub fn carry(row: &mut [u32], values: &mut [u32], turn: Option<Turn>) -> Result<Outcome, Refusal>
     requires { length row.old ≡ row_words }
     ensures { Leaves (carried row.old values.old (said_turn turn)) result row.new values.new }
 {
+    let Some(turn) = turn else {
+        return Err(Refusal::Misfit);
+    };
     match turn {
-        Turn::Misfit => Said::Unfit,
         Turn::Stop => {
             stop(row, values);
-            Said::Halted
+            return Ok(Outcome::Stopped);
         }
-        Turn::Skip => {
-            skip(row);
-            Said::Going
-        }
-        Turn::Assign(change, place, value) => {
-            assign(row, values, change, place, value);
-            Said::Going
-        }
-        Turn::Call(first, end, argument) => {
-            call(row, first, end, argument);
-            Said::Going
-        }
-        Turn::Reply(value) => {
-            reply(row, value);
-            Said::Going
-        }
-        Turn::Back(value) => {
-            back(row, value);
-            Said::Going
-        }
+        Turn::Skip => skip(row),
+        Turn::Assign(change, place, value) => assign(row, values, change, place, value),
+        Turn::Call(first, end, argument) => call(row, first, end, argument),
+        Turn::Reply(value) => reply(row, value),
+        Turn::Back(value) => back(row, value),
         Turn::Next(object, first, end, sum) => {
-            machine_words::enter_object(row, object, first, end, sum);
-            Said::Going
+            machine_words::enter_object(row, object, first, end, sum)
         }
         Turn::Answer(value) => {
             finish(row);
-            Said::Answered(value)
+            return Ok(Outcome::Answer(value));
         }
     }
+    Ok(Outcome::Going)
 }

@@ -14,16 +14,16 @@ ghost use Rattle.machine_words.specs.Calls.{lending, ended_at, called};
 ghost use Rattle.machine_checks.specs.Told.{Leaves};
 ghost use Rattle.machine_checks.specs.Lent.{Within};
 
+use machine_checks::{Phase, row_range};
 use machine_words::Outcome;
+use refusals::Refusal;
 
 // Clears what the slot's transaction wrote in its row, and wakes those who wait.
 fn close_and_wake(text: &[u8], state: &mut [u32], slot: u32)
     requires { Within state.old slot }
     ensures { state.new ≡ ended_at text.now state.old slot (row_of state.old slot) }
 {
-    let start = layout::TABLE_WORDS + slot as usize * layout::ROW_WORDS;
-    let end = start + layout::ROW_WORDS;
-    machine_undo::release::close(&mut state[start..end]);
+    machine_undo::release::close(&mut state[row_range(slot)]);
     machine_locks::wake::wake(text, state);
 }
 
@@ -36,9 +36,7 @@ fn close_slot(text: &[u8], state: &mut [u32], slot: u32)
         close_and_wake(text, state, slot);
         return;
     }
-    let start = layout::TABLE_WORDS + slot as usize * layout::ROW_WORDS;
-    let end = start + layout::ROW_WORDS;
-    machine_undo::release::close(&mut state[start..end]);
+    machine_undo::release::close(&mut state[row_range(slot)]);
 }
 
 // Undoes the slot's transaction, and wakes those who wait.
@@ -47,9 +45,7 @@ fn roll_back(text: &[u8], state: &mut [u32], values: &mut [u32], slot: u32)
     ensures { (state.new ≡ ended_at text.now state.old slot (row_of state.old slot))
         × (values.new ≡ put_back (note_at (row_of state.old slot)) values.old) }
 {
-    let start = layout::TABLE_WORDS + slot as usize * layout::ROW_WORDS;
-    let end = start + layout::ROW_WORDS;
-    machine_undo::release::roll_back(&mut state[start..end], values);
+    machine_undo::release::roll_back(&mut state[row_range(slot)], values);
     machine_locks::wake::wake(text, state);
 }
 
@@ -59,47 +55,38 @@ fn roll_back_waiting(text: &[u8], state: &mut [u32], values: &mut [u32], slot: u
     ensures { (state.new ≡ ended_at text.now state.old slot (withdrawn (row_of state.old slot)))
         × (values.new ≡ put_back (note_at (withdrawn (row_of state.old slot))) values.old) }
 {
-    let start = layout::TABLE_WORDS + slot as usize * layout::ROW_WORDS;
-    let end = start + layout::ROW_WORDS;
-    let row = &mut state[start..end];
+    let row = &mut state[row_range(slot)];
     machine_take::wait::withdraw(row);
     machine_undo::release::roll_back(row, values);
     machine_locks::wake::wake(text, state);
 }
 
 // Frees a slot and keeps the values.
-pub fn commit(text: &[u8], state: &mut [u32], values: &[u32], slot: u32) -> Outcome
+pub fn commit(text: &[u8], state: &mut [u32], values: &[u32], slot: u32) -> Result<Outcome, Refusal>
     ensures { Leaves (called (lending text.now state.old values.now) (commit slot))
         result (lending text.now state.new values.now) }
 {
-    let refused = machine_checks::idle_refusal(text, state, values, slot);
-    if refused != 0 {
-        return Outcome::Refused(refused);
-    }
-    if machine_checks::phase_of(state, slot) == layout::CLOSED {
-        return Outcome::Refused(32);
+    if let Phase::Closed = machine_checks::idle_refusal(text, state, values, slot)? {
+        return Err(Refusal::NotOpen);
     }
     close_slot(text, state, slot);
-    Outcome::Done
+    Ok(Outcome::Done)
 }
 
 // Undoes the transaction in the values, and frees its slot.
-pub fn abort(text: &[u8], state: &mut [u32], values: &mut [u32], slot: u32) -> Outcome
+pub fn abort(
+    text: &[u8],
+    state: &mut [u32],
+    values: &mut [u32],
+    slot: u32,
+) -> Result<Outcome, Refusal>
     ensures { Leaves (called (lending text.now state.old values.old) (abort slot))
         result (lending text.now state.new values.new) }
 {
-    let number = machine_checks::refusal(text, state, values, slot);
-    if number != 0 {
-        return Outcome::Refused(number);
+    match machine_checks::refusal(text, state, values, slot)? {
+        Phase::Closed => return Err(Refusal::NotOpen),
+        Phase::Waiting => roll_back_waiting(text, state, values, slot),
+        Phase::Idle | Phase::Running => roll_back(text, state, values, slot),
     }
-    let phase = machine_checks::phase_of(state, slot);
-    if phase == layout::CLOSED {
-        return Outcome::Refused(32);
-    }
-    if phase == layout::WAITING {
-        roll_back_waiting(text, state, values, slot);
-        return Outcome::Done;
-    }
-    roll_back(text, state, values, slot);
-    Outcome::Done
+    Ok(Outcome::Done)
 }

@@ -4,24 +4,11 @@ ghost use Rattle.model.specs.Service.{send};
 ghost use Rattle.model.specs.Machine.{to};
 ghost use Rattle.machine_words.specs.Calls.{lending, called};
 ghost use Rattle.machine_checks.specs.Told.{Leaves};
-ghost use Rattle.machine_locks.specs.Outcomes.{outcome_of};
 ghost use Rattle.machine_words.specs.Said.{aimed};
 
 use machine_locks::request::request;
 use machine_words::{Outcome, Target};
-
-// The outcome for a send's number.
-fn outcome_of(number: u32) -> Outcome
-    ensures { result ≡ outcome_of number }
-{
-    if number == 0 {
-        return Outcome::Done;
-    }
-    if number < 64 {
-        return Outcome::Refused(number);
-    }
-    Outcome::Held(number - 64)
-}
+use refusals::Refusal;
 
 // Sends a message: the method at a place of the target's class, with an argument. A granted send opens its slot if that is closed;
 // its locks are held until commit or abort.
@@ -33,14 +20,10 @@ pub fn send(
     target: Target,
     place: u32,
     argument: u32,
-) -> Outcome
+) -> Result<Outcome, Refusal>
     ensures { Leaves (called (lending text.now state.old values.now) (send slot (to (aimed target) place argument)))
         result (lending text.now state.new values.now) }
 {
-    let refused = machine_checks::idle_refusal(text, state, values, slot);
-    if refused != 0 {
-        return Outcome::Refused(refused);
-    }
-    let number = request(text, state, slot, target, place, argument);
-    outcome_of(number)
+    machine_checks::idle_refusal(text, state, values, slot)?;
+    request(text, state, slot, target, place, argument)
 }

@@ -25,6 +25,10 @@ pub part_is : (ws : List ℕ) (s : ℕ) → part ws s ≡ row_of ws s
 unfolding row_of
 part_is ws s = let k : row_start s + row_words - row_start s ≡ row_words = omega arith in ap (λ (n : ℕ). take n (drop (row_start s) ws)) k
 
+-- The same, by where the part begins and ends.
+pub part_at : (ws : List ℕ) (s a e : ℕ) → a ≡ row_start s → e ≡ row_start s + row_words → take (e - a) (drop a ws) ≡ row_of ws s
+part_at ws s a e p q = rw (p, q) (part_is ws s)
+
 -- The state with another row in that part.
 abbrev pub lent : List ℕ → ℕ → List ℕ → List ℕ
 lent ws s row = take (row_start s) ws ++ (row ++ drop (row_start s + row_words - row_start s) (drop (row_start s) ws))
@@ -35,6 +39,11 @@ module _ (ws : List ℕ) (s : ℕ) (h : Within ws s) where
 
   pub lent_is : (row row' : List ℕ) → length row ≡ row_words → row ≡ row' → lent ws s row ≡ with_row ws s row'
   lent_is row row' size same = lent_sets ws (row_start s) row_words (omega (arith, h.slot, h.long)) row row' size same
+
+  -- The same, by where the part begins and ends.
+  pub lent_at : (a e : ℕ) → a ≡ row_start s → e ≡ row_start s + row_words → (row row' : List ℕ) → length row ≡ row_words → row ≡ row'
+      → take a ws ++ (row ++ drop (e - a) (drop a ws)) ≡ with_row ws s row'
+  lent_at a e p q row row' size same = rw (p, q) (lent_is row row' size same)
 
 -- ---- one row written twice, or written back unchanged
 

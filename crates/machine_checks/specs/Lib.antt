@@ -1,3 +1,4 @@
 pub mod Told
 pub mod Lent
 pub mod Phases
+pub mod Phase

@@ -1,7 +1,8 @@
 -- A call stage by stage: the refusals that every call tests first, then what it does by its slot's phase.
 use Prim.Native.Nat.{ℕ, zero, suc, ◌+◌, ◌*◌, ◌≤◌, ◌<◌}
 use Rattle.std.proofs.Common.{arith, ap, subst, ◌∙◌, get_or-take, get_or-drop}
-use Rattle.std.specs.Prelude.{◌≡◌, Bool, not, ◌&&◌, List, length, get_or, drop}
+use Rattle.std.specs.Prelude.{◌≡◌, Bool, not, ◌&&◌, List, length, get_or, drop, Result}
+use Rattle.refusals.specs.declared.Refusal.{Refusal}
 use Rattle.std.proofs.Math.Path.{refl, sym}
 use Rattle.std.proofs.Math.Bool.{true, false, cond}
 use Rattle.std.proofs.Math.Dec.{eqb, leb, ltb, eqb-suc-zero}
@@ -13,6 +14,8 @@ use Rattle.machine_words.specs.Calls.{Lent, After, mark, row_start, row_of, phas
 use Rattle.machine_words.specs.Rows.{fit_is}
 use Rattle.machine_words.specs.declared.Outcome.{Outcome}
 use Rattle.machine_checks.specs.Told.{Leaves}
+use Rattle.machine_checks.specs.Phase.{phase_from, phase_fits}
+use Rattle.refusals.specs.Numbers.{refusal_in}
 use Rattle.machine_checks.specs.Lent.{Within}
 
 -- 21, 24, then 31, then 24 for an unknown phase; 0 where none of them applies.
@@ -57,14 +60,9 @@ module _ (x : Lent) (s m : ℕ) (e : m ≡ misfit_of x) where
     unfolding first_refusal
     first_slot h = rw (← e, z, le-leb 8 s h)
 
-    module _ (h : s < 8) (f : ℕ) (q : f ≡ phase_of (row_of x.words s)) where
-      pub first_phase : 3 < f → 24 ≡ first_refusal x s
-      unfolding first_refusal
-      first_phase l = rw (← e, z, lt-leb 8 s h, ← q, lt-ltb 3 f l)
-
-      pub first_none : f ≤ 3 → 0 ≡ first_refusal x s
-      unfolding first_refusal
-      first_none l = rw (← e, z, lt-leb 8 s h, ← q, le-ltb 3 f l)
+    pub first_phase : s < 8 → (f : ℕ) → f ≡ phase_of (row_of x.words s) → refusal_in (phase_from f) ≡ first_refusal x s
+    unfolding first_refusal
+    first_phase h f q = rw (← e, z, lt-leb 8 s h, ← q) (phase_fits f)
 
 -- ---- by the phase
 
@@ -135,10 +133,6 @@ module _ (x : Lent) (c : Call Request) (n : ℕ) (e : n ≡ first_refusal x (slo
         go false t =
             let h = (none_first x (slot_in c) n e z).2 in
             r ∙ when_running (omega (arith, h, eqb-false f 1 t, q))
-
-    -- Of the four phases, the one that is left.
-    pub when_left : (f ≡ 0 → ⊥) → (f ≡ 1 → ⊥) → (f ≡ 3 → ⊥) → on_running x c ≡ called x c
-    when_left a b d = let h = (none_first x (slot_in c) n e z).2 in when_running (omega (arith, h, q))
 
 -- ---- send and commit, which need a slot where no message runs
 
@@ -232,5 +226,5 @@ phase_is ws s =
     sym (get_or-take row_words (drop (row_start s) ws) 0 0 (omega arith) ∙ get_or-drop (row_start s) ws 0 0 ∙ ap (λ (i : ℕ). get_or ws i 0) e)
 
 -- What leaves a result leaves an equal one too.
-pub leaves_as : {after after' : After} {r : Outcome} {y : Lent} → after ≡ after' → Leaves after r y → Leaves after' r y
+pub leaves_as : {after after' : After} {r : Result Outcome Refusal} {y : Lent} → after ≡ after' → Leaves after r y → Leaves after' r y
 leaves_as {r = r} {y = y} e h = subst (λ (a : After). Leaves a r y) e h

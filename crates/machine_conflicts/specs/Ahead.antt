@@ -1,24 +1,23 @@
 -- The line as the code reads it: its count, its first places one by one, and a waiting send.
-use Rattle.std.specs.Prelude.{ℕ, ◌+◌, ◌-◌, ◌*◌, ◌%◌, ◌≤◌, ◌<◌, ◌≡◌, refl, Bool, true, false, cond, List, length, get_or, take, drop, eqb, ltb}
+use Rattle.std.specs.Prelude.{ℕ, ◌+◌, ◌*◌, ◌%◌, ◌≤◌, ◌<◌, ◌≡◌, refl, Bool, true, false, cond, List, length, get_or, drop, eqb, ltb}
 use Rattle.std.proofs.Common.{arith, sym, ap, ◌∙◌, length-take, length-drop, get_or-take, get_or-drop, ext_get_or}
 use borrow.Author.Tests.{eq-eqb, ne_eqb, lt-ltb, le-ltb, ltb-true, ltb-false}
-use Rattle.layout.specs.Layout.{names_at, kind_words, method_names_at, object_class_at, kind_at, number_at, argument_at, place_at, line_at, first_in_line_at, waiting_at, waiting_words, state_words}
+use Rattle.layout.specs.Layout.{names_at, kind_words, method_names_at, object_class_at, kind_at, number_at, argument_at, place_at, line_at, first_in_line_at, state_words}
 use Rattle.model.specs.Base.{any, upto}
 use Rattle.catalog.specs.View.{object_word, class_word}
 use Rattle.laws.specs.Lists.{both_left}
 use Rattle.laws.specs.Upto.{length_upto, get_d_upto}
 use Rattle.machine_words.specs.Request.{Wanted, wanted, class_for}
-use Rattle.machine_words.specs.Line.{tables_of, row_start, row_of, phase_of, wanted_in, count_in, first_in_line, slot_at, is_waiting, waits_ahead, waiting_send}
-use Rattle.machine_words.specs.Rows.{waiting_part}
+use Rattle.machine_words.specs.Line.{row_of, phase_of, wanted_in, count_in, first_in_line, slot_at, is_waiting, waits_ahead}
 
-module _ (ws : List ℕ) (n : ℕ) (e : n ≡ get_or ws line_at 0) where
-  pub count_most : 8 < n → 8 ≡ count_in ws
-  unfolding count_in
-  count_most h = rw (← e, lt-ltb 8 n h)
-
-  pub count_is : n ≤ 8 → n ≡ count_in ws
-  unfolding count_in
-  count_is h = rw (← e, le-ltb 8 n h)
+-- The lesser of the count and 8.
+pub count_is : (ws : List ℕ) (n m : ℕ) → n ≡ get_or ws line_at 0 → (8 < n → m ≡ 8) → (n ≤ 8 → m ≡ n) → m ≡ count_in ws
+unfolding count_in
+count_is ws n m e most few = rw (← e) (go (ltb 8 n) refl)
+  where
+    go : (b : Bool) → ltb 8 n ≡ b → m ≡ cond b 8 n
+    go true b = most (ltb-true 8 n b)
+    go false b = few (ltb-false 8 n b)
 
 pub count_le : (ws : List ℕ) → count_in ws ≤ 8
 unfolding count_in
@@ -35,14 +34,6 @@ line_upto ws n long h =
     ext_get_or 0 (upto (slot_at ws) n) (first_in_line ws n) (length_upto (slot_at ws) n ∙ sym size)
     (λ i l. let k : i < n = omega (arith, length_upto (slot_at ws) n) in
     get_d_upto (slot_at ws) n i 0 k ∙ sym (get_or-take n (drop first_in_line_at ws) i 0 k ∙ get_or-drop first_in_line_at ws i 0))
-
--- A slot's waiting send, read from the lent part.
-pub waiting_send_law : (ws : List ℕ) (t : ℕ) (q : Wanted)
-    → q ≡ wanted_in (tables_of ws) (take (row_start t + waiting_at + waiting_words - (row_start t + waiting_at)) (drop (row_start t + waiting_at) ws))
-    → q ≡ waiting_send ws t
-waiting_send_law ws t q w =
-    let k : row_start t + waiting_at + waiting_words - (row_start t + waiting_at) ≡ waiting_words = omega arith in
-    w ∙ ap (λ (i : ℕ). wanted_in (tables_of ws) (take i (drop (row_start t + waiting_at) ws))) k ∙ ap (wanted_in (tables_of ws)) (waiting_part ws t)
 
 -- Its class, by the kind of its target.
 module _ (tables : List ℕ) (kind n : ℕ) where

@@ -1,12 +1,14 @@
 -- The test of a row's locks in the code's order: whether it holds a lock on the class, whether the send locks the class, whether
 -- the methods commute; and the test of a domain, some class of which may lack the method.
-use Rattle.std.specs.Prelude.{ℕ, ◌+◌, ◌-◌, ◌≤◌, ◌<◌, ◌≡◌, Bool, not, ◌&&◌, List, get_or, eqb, leb}
+use Rattle.std.specs.Prelude.{ℕ, ◌+◌, ◌-◌, ◌≤◌, ◌<◌, ◌≡◌, Bool, not, ◌&&◌, List, get_or, eqb, leb, Option, Some, None, MatchOption}
 use Rattle.std.proofs.Math.Path.{refl, sym, ap}
 use Rattle.std.proofs.Common.{◌∙◌, arith}
 use Rattle.std.proofs.Math.Bool.{true, false, cond}
 use Rattle.std.specs.Int.Bits.{bit_and, bit_or, and_zero_l}
 use Rattle.std.proofs.Math.Dec.{ltb}
-use borrow.Author.Tests.{ltb-true, lt-ltb, le-ltb, eq-eqb, ne_eqb}
+use borrow.Author.Tests.{ltb-true, lt-ltb, le-ltb, le-leb, lt-leb, eq-eqb, ne_eqb}
+use Rattle.std.specs.Option.{is_none}
+use Rattle.catalog.specs.Look.{Found}
 use Rattle.layout.specs.Layout.{commuting_at, object_locks_at, class_locks_at, whole_locks_at}
 use Rattle.model.specs.Base.{any, upto}
 use Rattle.model.specs.Word.{Name}
@@ -18,6 +20,10 @@ use Rattle.machine_words.specs.Request.{Wanted, meets, place_in, commuting_in, i
 unfoldable pub domain_place : List ℕ → List ℕ → Wanted → ℕ → ℕ
 unfolding concerns place_in
 domain_place text tables q d = cond (concerns text tables q d) (place_in text tables q d) 32
+
+-- The place k, where it is one; no place is 32.
+abbrev pub Placed : Option ℕ → ℕ → Type 0
+Placed r k = MatchOption r (k ≡ 32) (λ x. (x ≡ k) × (x < 32))
 
 -- Whether the row holds a lock on class d that clashes with the send's.
 unfoldable pub class_clashes : List ℕ → List ℕ → Wanted → List ℕ → ℕ → Bool
@@ -93,6 +99,22 @@ module _ (text tables : List ℕ) (q : Wanted) (d : ℕ) where
     pub lacks_method : leb n k ≡ lacks text tables q d
     unfolding lacks
     lacks_method = rw (i, found, ← m)
+
+  -- What the look-up of the name finds.
+  module _ (name : Name) (s : name ≡ name_of text q.name) (i : in_domain tables q d ≡ true) where
+    pub placed_by : (r : Option ℕ) → Found r (member_place (members_of text tables d 1) name) (member_count tables d 1) → Placed r (domain_place text tables q d)
+    placed_by None h = sym (place_none name s (member_place (members_of text tables d 1) name) (member_count tables d 1) refl refl i h)
+    placed_by (Some k) h =
+        (place_there name s k (member_count tables d 1) h.0 refl i h.1, omega (arith, h.1, few_members tables d 1))
+
+    pub lacks_by : (r : Option ℕ) → Found r (member_place (members_of text tables d 1) name) (member_count tables d 1) → is_none r ≡ lacks text tables q d
+    lacks_by None h =
+        let k = member_place (members_of text tables d 1) name in
+        let n = member_count tables d 1 in
+        sym (le-leb n k h) ∙ lacks_method name s k n refl refl i
+    lacks_by (Some k) h =
+        let n = member_count tables d 1 in
+        sym (lt-leb n k h.1) ∙ lacks_method name s k n h.0 refl i
 
   -- The send locks the class exactly if the place is not 32.
   module _ (k : ℕ) (e : k ≡ domain_place text tables q d) where

@@ -1,38 +1,26 @@
 -- The slots in a send's way, as the code finds them: those that are open and hold a conflict; and a send to an object that starts
 -- at once, since no slot holds one.
-use Prim.Native.Nat.{ℕ, zero, suc, ◌+◌, ◌-◌, ◌*◌, ◌^◌, ◌<◌}
+use Prim.Native.Nat.{ℕ, zero, suc, ◌+◌, ◌-◌, ◌*◌, ◌^◌, ◌≤◌, ◌<◌}
 use native.Mathlib.Omega.{arith}
 use Rattle.std.proofs.Common.{add-one, ap₂, subst, ◌∙◌, true≢false}
-use Rattle.std.specs.Prelude.{◌≡◌, Bool, not, cond, ◌&&◌, ◌||◌, get_or, take, drop}
+use Rattle.std.specs.Prelude.{◌≡◌, Bool, not, cond, ◌&&◌, ◌||◌, get_or}
 use Rattle.std.proofs.Math.Path.{refl, sym, ap, fun_ext}
 use Rattle.std.proofs.Math.Bool.{true, false}
 use mathlib.Core.List.{List}
 use Rattle.std.specs.Int.Bits.{bit_and, bit_or}
 use Rattle.std.proofs.Math.Dec.{eqb}
 use borrow.Author.Tests.{eqb-true, eq-eqb, ne_eqb, eqb-false}
-use Rattle.layout.specs.Layout.{object_locks_at, class_locks_at, waiting_at, waiting_words, line_at}
+use Rattle.layout.specs.Layout.{object_locks_at, class_locks_at, line_at}
 use Rattle.model.specs.Base.{digit, any}
 use Rattle.laws.specs.Lists.{both_left, both_right}
 use Rattle.catalog.specs.Bodies.{named_at}
 use Rattle.machine_words.specs.Request.{Wanted, meets, row_meets}
-use Rattle.machine_words.specs.Line.{tables_of, row_start, row_of, phase_of, count_in, waits_ahead, holder_at, waiter_at, blocks, in_the_way}
-use Rattle.machine_words.specs.Rows.{waiting_part}
+use Rattle.machine_words.specs.Line.{tables_of, row_of, waiting_in, phase_of, count_in, waits_ahead, holder_at, waiter_at, blocks, in_the_way}
 use Rattle.machine_words.specs.Meeting.{meets_or}
-use Rattle.machine_conflicts.specs.Clashing.{held_at, holds_one, conflicts_of, meets_object, meets_class}
-use Rattle.machine_checks.specs.Lent.{part, part_is}
+use Rattle.machine_conflicts.specs.Clashing.{held_at, holds_one, conflicts_of, domain_clashes, meets_object, meets_class, meets_domain}
 use Rattle.machine_conflicts.specs.Way.{gathered, besides}
 
 -- ---- the slots in the way
-
--- Another slot than the sender's.
-module _ (text ws : List ℕ) (n s : ℕ) (q : Wanted) (t : ℕ) where
-  pub own_slot : t ≡ s → false ≡ in_the_way text ws n s q t
-  unfolding in_the_way
-  own_slot e = rw (eq-eqb t s e)
-
-  pub other_slot : (t ≡ s → ⊥) → blocks ws n (row_meets text (tables_of ws) q) t ≡ in_the_way text ws n s q t
-  unfolding in_the_way
-  other_slot e = rw (ne_eqb t s e)
 
 -- By the test of a row, the slot's phase being f.
 module _ (ws : List ℕ) (test : List ℕ → Bool) (t : ℕ) where
@@ -41,20 +29,18 @@ module _ (ws : List ℕ) (test : List ℕ → Bool) (t : ℕ) where
     unfolding holder_at
     closed_holds z = rw (← p, eq-eqb f 0 z)
 
-    pub open_holds : (f ≡ 0 → ⊥) → test (part ws t) ≡ holder_at ws test t
+    pub open_holds : (f ≡ 0 → ⊥) → test (row_of ws t) ≡ holder_at ws test t
     unfolding holder_at
-    open_holds z = rw (← p, ne_eqb f 0 z) (ap test (part_is ws t))
+    open_holds z = rw (← p, ne_eqb f 0 z)
 
   module _ (n : ℕ) (b : Bool) (p : b ≡ waits_ahead ws n t) where
     pub behind_waits : b ≡ false → false ≡ waiter_at ws n test t
     unfolding waiter_at
     behind_waits z = rw (← p, z)
 
-    pub ahead_waits : b ≡ true → test (take (row_start t + waiting_at + waiting_words - (row_start t + waiting_at)) (drop (row_start t + waiting_at) ws)) ≡ waiter_at ws n test t
+    pub ahead_waits : b ≡ true → test (waiting_in (row_of ws t)) ≡ waiter_at ws n test t
     unfolding waiter_at
-    ahead_waits z =
-        let k : row_start t + waiting_at + waiting_words - (row_start t + waiting_at) ≡ waiting_words = omega arith in
-        rw (← p, z, k) (ap test (waiting_part ws t))
+    ahead_waits z = rw (← p, z)
 
   -- A holder is in the way, whether it waits or not.
   pub holder_blocks : (n : ℕ) (b : Bool) → b ≡ holder_at ws test t → b ≡ true → true ≡ blocks ws n test t
@@ -73,9 +59,9 @@ unfolding row_of
 held_upto ws word d zero = 0
 held_upto ws word d (suc n) = bit_or (held_upto ws word d n) (held_at (row_of ws n) word d)
 
-pub held_more : (ws : List ℕ) (word d n held one : ℕ) → held ≡ held_upto ws word d n → one ≡ held_at (part ws n) word d → bit_or held one ≡ held_upto ws word d (n + 1)
+pub held_more : (ws : List ℕ) (word d n held one : ℕ) → held ≡ held_upto ws word d n → one ≡ held_at (row_of ws n) word d → bit_or held one ≡ held_upto ws word d (n + 1)
 unfolding held_upto
-held_more ws word d n held one e q = rw (add-one n) (ap₂ bit_or e (q ∙ ap (λ (row : List ℕ). held_at row word d) (part_is ws n)))
+held_more ws word d n held one e q = rw (add-one n) (ap₂ bit_or e q)
 
 conflicts_lt : (tables : List ℕ) (c k : ℕ) → conflicts_of tables c k < 4294967296
 unfolding conflicts_of
@@ -153,6 +139,14 @@ module _ (text ws : List ℕ) (n s : ℕ) (q : Wanted) (methods : ℕ) (m : meth
           ≡ gathered (in_the_way text ws n s q) 8
       go true e = object_in_the_way (eqb-true q.kind 0 e)
       go false e = class_in_the_way (omega (arith, eqb-false q.kind 0 e))
+
+-- The same for a send to a domain.
+pub domain_in_the_way : (text ws : List ℕ) (n s : ℕ) (q : Wanted) (tables : List ℕ) → tables ≡ tables_of ws → 2 ≤ q.kind
+    → gathered (besides s (blocks ws n (domain_clashes text tables q))) 8 ≡ gathered (in_the_way text ws n s q) 8
+unfolding in_the_way
+domain_in_the_way text ws n s q tables e h =
+    ap (λ (test : List ℕ → Bool). gathered (besides s (blocks ws n test)) 8)
+    (fun_ext (λ row. ap (λ (t : List ℕ). domain_clashes text t q row) e ∙ meets_domain text (tables_of ws) q row h))
 
 -- ---- a send to an object that starts at once
 

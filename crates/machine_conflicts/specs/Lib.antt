@@ -1,5 +1,6 @@
 pub mod Clashing
 pub mod Way
+pub mod Tested
 pub mod Ahead
 pub mod Circle
 pub mod Holders

@@ -1,7 +1,6 @@
 -- The slots in a send's way, gathered in a mask from slot 0 on: the number of its trailing zeros is the lowest of them.
-use Prim.Native.Nat.{ℕ, zero, suc, ◌+◌, ◌-◌, ◌*◌, ◌/◌, ◌%◌, ◌^◌, ◌≤◌, ◌<◌}
+use Prim.Native.Nat.{ℕ, zero, suc, ◌+◌, ◌*◌, ◌/◌, ◌%◌, ◌^◌, ◌≤◌, ◌<◌}
 use native.Mathlib.Omega.{arith}
-use Rattle.std.proofs.Math.Decide.{dec_lt}
 use Rattle.std.proofs.Common.{pow-suc, mul_assoc, add-one, sym, ◌∙◌, pow_pos}
 use Rattle.std.specs.Prelude.{◌≡◌, Bool, not, cond, ◌&&◌}
 use Rattle.std.proofs.Math.Path.{refl, ap, ap₂, subst}
@@ -52,44 +51,19 @@ module _ (p : ℕ → Bool) (m n : ℕ) (h : n < 32) (e : m ≡ gathered p n) wh
 abbrev pub besides : ℕ → (ℕ → Bool) → ℕ → Bool
 besides s p n = not (eqb n s) && p n
 
-module _ (p : ℕ → Bool) (s : ℕ) where
-  unchanged : (n : ℕ) → n ≤ s → gathered (besides s p) n ≡ gathered p n
-  unfolding gathered
-  unchanged zero h = refl
-  unchanged (suc n) h =
-      let e : eqb n s ≡ false = ne_eqb n s (λ x. omega arith) in
-      ap₂ ◌+◌ (unchanged n (omega arith)) (ap (λ (b : Bool). digit (not b && p n) * 2 ^ n) e)
+module _ (s : ℕ) (p : ℕ → Bool) (n : ℕ) where
+  pub beside_there : (n ≡ s → ⊥) → p n ≡ true → besides s p n ≡ true
+  beside_there ne t = rw (ne_eqb n s ne, t)
 
-  one_less : (n : ℕ) → s < n → gathered (besides s p) n + digit (p s) * 2 ^ s ≡ gathered p n
-  unfolding gathered
-  one_less zero h = absurd (omega arith)
-  one_less (suc n) h = go (dec_lt s n) (one_less n)
+  pub beside_own : n ≡ s → besides s p n ≡ false
+  beside_own e = rw (eq-eqb n s e)
+
+  pub beside_none : p n ≡ false → besides s p n ≡ false
+  beside_none t = rw t (go (eqb n s))
     where
-      go : Dec (s < n) → (s < n → gathered (besides s p) n + digit (p s) * 2 ^ s ≡ gathered p n)
-          → gathered (besides s p) (suc n) + digit (p s) * 2 ^ s ≡ gathered p (suc n)
-      go (yes l) rest =
-          let e : eqb n s ≡ false = ne_eqb n s (λ x. omega arith) in
-          let r = rest l in
-          rw e (omega (arith, r))
-      go (no l) rest =
-          let e : s ≡ n = omega arith in
-          let r = unchanged n (omega arith) in
-          let t : eqb n s ≡ true = eq-eqb n s (omega arith) in
-          let d = ap (λ (x : ℕ). digit (p x) * 2 ^ x) e in
-          rw t (omega (arith, r, d))
-
-  module _ (m n : ℕ) (h : s < n) (k : n ≤ 32) (e : m ≡ gathered p n) where
-    bit_is : (1 * 2 ^ s) % 2 ^ 32 ≡ 2 ^ s
-    bit_is = let x = shl_exact {a = 1} 1 s 32 (omega arith) (omega arith) in x ∙ (omega arith)
-
-    pub out_fits : p s ≡ true → (1 * 2 ^ s) % 2 ^ 32 ≤ m
-    out_fits t = rw bit_is (let r = one_less n h in let d = ap (λ (b : Bool). digit b * 2 ^ s) t in omega (arith, r, d, e))
-
-    pub out : p s ≡ true → m - (1 * 2 ^ s) % 2 ^ 32 ≡ gathered (besides s p) n
-    out t = rw bit_is (let r = one_less n h in let d = ap (λ (b : Bool). digit b * 2 ^ s) t in omega (arith, r, d, e))
-
-    pub stays : p s ≡ false → m ≡ gathered (besides s p) n
-    stays t = let r = one_less n h in let d = ap (λ (b : Bool). digit b * 2 ^ s) t in omega (arith, r, d, e)
+      go : (b : Bool) → (not b && false) ≡ false
+      go true = refl
+      go false = refl
 
 -- ---- trailing zeros
 

@@ -11,6 +11,7 @@ ghost use Rattle.machine_conflicts.specs.Circle.{waits_here, relation, Relates, 
 
 use super::clash::clashing;
 use super::line::{is_waiting, slot_at, waiting_count, wanted_in};
+use machine_checks::{tables_of, waiting_of};
 use machine_words::Wanted;
 
 // The slots in the way of the waiting send of a slot that has so many ahead of it.
@@ -18,9 +19,7 @@ fn waits_for(text: &[u8], state: &[u32], ahead: u32, slot: u32) -> u32
     requires { Within state.now slot × (ahead ≤ 8) }
     ensures { result ≡ gathered (in_the_way text.now state.now ahead slot (waiting_send state.now slot)) 8 }
 {
-    let start = layout::TABLE_WORDS + slot as usize * layout::ROW_WORDS + layout::WAITING_AT;
-    let end = start + layout::WAITING_WORDS;
-    let wanted = wanted_in(&state[0..layout::TABLE_WORDS], &state[start..end]);
+    let wanted = wanted_in(tables_of(state), waiting_of(state, slot));
     clashing(text, state, ahead, slot, wanted)
 }
 
@@ -50,10 +49,8 @@ fn add_all_waits(text: &[u8], state: &[u32], count: u32, masks: &mut [u32])
     requires { (state_words ≤ length state.now) × (count ≤ 8) × (length masks.old ≡ 8) }
     ensures { Adds (waits_from text.now state.now 0 count) masks.old masks.new }
 {
-    let mut place = 0;
-    while place < count {
+    for place in 0..count {
         add_waits(text, state, place, masks);
-        place += 1;
     }
 }
 
@@ -74,10 +71,8 @@ fn lead_through(masks: &mut [u32], way: u32)
     requires { (length masks.old ≡ 8) × (way < 8) }
     ensures { Through way masks.old masks.new }
 {
-    let mut slot = 0u32;
-    while slot < layout::SLOTS {
+    for slot in 0..layout::SLOTS {
         lead_on(masks, slot, way);
-        slot += 1;
     }
 }
 
@@ -86,10 +81,8 @@ fn lead_all(masks: &mut [u32])
     requires { length masks.old ≡ 8 }
     ensures { Relates (leads (relation masks.old) 8) masks.new }
 {
-    let mut way = 0u32;
-    while way < layout::SLOTS {
+    for way in 0..layout::SLOTS {
         lead_through(masks, way);
-        way += 1;
     }
 }
 

@@ -12,11 +12,7 @@ use machine_words::Wanted;
 pub fn waiting_count(state: &[u32]) -> u32
     ensures { result ≡ count_in state.now }
 {
-    let count = memory::get(state, layout::LINE_AT);
-    if layout::SLOTS < count {
-        return layout::SLOTS;
-    }
-    count
+    memory::get(state, layout::LINE_AT).min(layout::SLOTS)
 }
 
 // The slot at a place of the line.
@@ -36,17 +32,15 @@ pub fn is_waiting(state: &[u32], slot: u32) -> bool
     machine_checks::phase_of(state, slot) == layout::WAITING
 }
 
-// Whether the slot is one of the first in line.
+// Whether the slot is one of the first in line. A chain (`any`) proves too, but makes `clashing` take twice the steps where nobody waits.
 fn is_ahead(state: &[u32], count: u32, slot: u32) -> bool
     requires { (state_words ≤ length state.now) × (count ≤ 8) }
     ensures { result ≡ any (eqb slot) (first_in_line state.now count) }
 {
-    let mut place = 0;
-    while place < count {
+    for place in 0..count {
         if slot_at(state, place) == slot {
             return true;
         }
-        place += 1;
     }
     false
 }

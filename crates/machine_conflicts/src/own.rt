@@ -11,27 +11,20 @@ use machine_words::Wanted;
 fn misses_lock(text: &[u8], tables: &[u32], wanted: Wanted, row: &[u32], class: u32) -> bool
     ensures { result ≡ misses text.now tables.now (asked wanted) row.now class }
 {
-    let place = domain_place(text, tables, wanted, class);
-    if 32 <= place {
-        return false;
+    match domain_place(text, tables, wanted, class) {
+        Some(place) => {
+            let held = memory::get(row, layout::WHOLE_LOCKS_AT + class as usize);
+            !catalog::has_bit(held, place)
+        }
+        None => false,
     }
-    let held = memory::get(row, layout::WHOLE_LOCKS_AT + class as usize);
-    !catalog::has_bit(held, place)
 }
 
 // Whether the row misses a lock of a send to a domain.
 fn misses_one(text: &[u8], tables: &[u32], wanted: Wanted, row: &[u32]) -> bool
     ensures { result ≡ misses_one text.now tables.now (asked wanted) row.now }
 {
-    let count = catalog::class_count(tables);
-    let mut class = 0;
-    while class < count {
-        if misses_lock(text, tables, wanted, row, class) {
-            return true;
-        }
-        class += 1;
-    }
-    false
+    (0..catalog::class_count(tables)).any(|class| misses_lock(text, tables, wanted, row, class))
 }
 
 // Whether the row holds every lock that the send takes.

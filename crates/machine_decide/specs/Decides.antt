@@ -9,14 +9,15 @@ use Rattle.model.specs.Library.{Member}
 use Rattle.catalog.specs.View.{object_count, statement_count}
 use Rattle.machine_words.specs.Row.{Turn, misfit, stop, back, next, answer, act, top}
 use Rattle.machine_words.specs.Turn.{target_there, object_from, next_on, next_turn, line_turn, end_turn, activation_turn, decided_wide, steps_most, decided}
-use Rattle.catalog.specs.declared.body.Body.{Body}
-use Rattle.catalog.specs.declared.body.Body.TheVariants.{Found, Missing}
+use Rattle.catalog.specs.declared.body.Statements.{Statements}
+use Rattle.std.specs.Prelude as rust
+use Rattle.std.specs.Prelude.{Some, None}
 use Rattle.catalog.specs.Bodies.{bounds_of}
 
 -- The turn to an object, by the answer for its body.
-abbrev pub next_by : ℕ → ℕ → Body → Turn
-next_by o sum (Found first end) = next o first end sum
-next_by o sum Missing = misfit
+abbrev pub next_by : ℕ → ℕ → rust.Option Statements → Turn
+next_by o sum (Some s) = next o s.first s.end sum
+next_by o sum None = misfit
 
 pub next_by_law : (o sum : ℕ) (m : Option Member) → next_by o sum (bounds_of m) ≡ next_on o sum m
 next_by_law o sum none = refl

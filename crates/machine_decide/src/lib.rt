@@ -7,7 +7,6 @@ ghost use Rattle.layout.specs.Layout.{steps_at, object_at};
 ghost use Rattle.machine_words.specs.Turn.{next_turn, end_turn, activation_turn, decided_wide, decided};
 ghost use Rattle.machine_words.specs.Said.{said_turn};
 
-use catalog::body::Body;
 use machine_statement::line::line_turn;
 use machine_targets::visit::{object_from, target_there};
 use machine_words::Turn;
@@ -16,40 +15,43 @@ use machine_words::Turn;
 const STEPS_MOST: u32 = 65535;
 
 // The turn to an object, with the sum so far: to its own class's method of the name sent.
-fn next_turn(text: &[u8], tables: &[u32], name: u32, object: u32, sum: u32) -> Turn
+fn next_turn(text: &[u8], tables: &[u32], name: u32, object: u32, sum: u32) -> Option<Turn>
     ensures { said_turn result ≡ next_turn text.now tables.now name object sum }
 {
     let class = catalog::class_of(tables, object);
-    let body = catalog::body::body_in(text, tables, class, catalog::name_of(text, name));
-    match body {
-        Body::Found(first, end) => Turn::Next(object, first, end, sum),
-        Body::Missing => Turn::Misfit,
-    }
+    let body = catalog::body::body_in(text, tables, class, catalog::name_of(text, name))?;
+    Some(Turn::Next(object, body.first, body.end, sum))
 }
 
 // The turn where an object has ended with a reply: to the next object of the target, or the answer.
-fn end_turn(text: &[u8], tables: &[u32], row: &[u32], value: u32) -> Turn
+fn end_turn(text: &[u8], tables: &[u32], row: &[u32], value: u32) -> Option<Turn>
     requires { slice_index row.now object_at < 64 }
     ensures { said_turn result ≡ end_turn text.now tables.now row.now value }
 {
     let kind = memory::get(row, layout::KIND_AT);
     let number = memory::get(row, layout::NUMBER_AT);
     if !target_there(tables, kind, number) {
-        return Turn::Misfit;
+        return None;
     }
-    let sum = std::num::wrapping_add_u32(memory::get(row, layout::SUM_AT), value);
+    let sum = memory::get(row, layout::SUM_AT).wrapping_add(value);
     let from = memory::get(row, layout::OBJECT_AT) + 1;
     let object = object_from(tables, kind, number, from);
     if object < catalog::object_count(tables) {
         next_turn(text, tables, memory::get(row, layout::NAME_AT), object, sum)
     } else {
-        Turn::Answer(sum)
+        Some(Turn::Answer(sum))
     }
 }
 
 // The turn of the latest activation, which must be within the text's statements, with one left or none. An object's 1,024th step
 // stops the message unless it ends the object; `steps` are done.
-fn activation_turn(text: &[u8], tables: &[u32], row: &[u32], values: &[u32], steps: u16) -> Turn
+fn activation_turn(
+    text: &[u8],
+    tables: &[u32],
+    row: &[u32],
+    values: &[u32],
+    steps: u16,
+) -> Option<Turn>
     requires { (slice_index row.now object_at < 64) × (steps ≡ slice_index row.now steps_at) }
     ensures { said_turn result ≡ activation_turn text.now tables.now row.now values.now }
 {
@@ -57,7 +59,7 @@ fn activation_turn(text: &[u8], tables: &[u32], row: &[u32], values: &[u32], ste
     let next = machine_words::act(row, activation, layout::NEXT_AT);
     let end = machine_words::act(row, activation, layout::END_AT);
     if (end < next) | (catalog::statement_count(tables) < end) {
-        return Turn::Misfit;
+        return None;
     }
     let late = 1023 <= steps;
     if next == end {
@@ -66,12 +68,12 @@ fn activation_turn(text: &[u8], tables: &[u32], row: &[u32], values: &[u32], ste
             return end_turn(text, tables, row, value);
         }
         if late {
-            return Turn::Stop;
+            return Some(Turn::Stop);
         }
-        return Turn::Back(value);
+        return Some(Turn::Back(value));
     }
     if late {
-        return Turn::Stop;
+        return Some(Turn::Stop);
     }
     let object = memory::get(row, layout::OBJECT_AT);
     let depth = memory::get(row, layout::DEPTH_AT);
@@ -81,29 +83,35 @@ fn activation_turn(text: &[u8], tables: &[u32], row: &[u32], values: &[u32], ste
 }
 
 // The next step of the message that a row runs, with the steps done on its object; past the last object it answers.
-fn decide_counted(text: &[u8], tables: &[u32], row: &[u32], values: &[u32], steps: u16) -> Turn
+fn decide_counted(
+    text: &[u8],
+    tables: &[u32],
+    row: &[u32],
+    values: &[u32],
+    steps: u16,
+) -> Option<Turn>
     requires { steps ≡ slice_index row.now steps_at }
     ensures { said_turn result ≡ decided_wide text.now tables.now row.now values.now }
 {
     let object = memory::get(row, layout::OBJECT_AT);
     let count = catalog::object_count(tables);
     if object == count {
-        return Turn::Answer(memory::get(row, layout::SUM_AT));
+        return Some(Turn::Answer(memory::get(row, layout::SUM_AT)));
     }
     let depth = memory::get(row, layout::DEPTH_AT);
     if (count < object) | (depth == 0) | (8 < depth) {
-        return Turn::Misfit;
+        return None;
     }
     activation_turn(text, tables, row, values, steps)
 }
 
 // The next step of the message that a row runs. Its steps are counted in 16 bits; a count that they don't hold fits no message.
-pub fn decide(text: &[u8], tables: &[u32], row: &[u32], values: &[u32]) -> Turn
+pub fn decide(text: &[u8], tables: &[u32], row: &[u32], values: &[u32]) -> Option<Turn>
     ensures { said_turn result ≡ decided text.now tables.now row.now values.now }
 {
     let steps = memory::get(row, layout::STEPS_AT);
     if STEPS_MOST < steps {
-        return Turn::Misfit;
+        return None;
     }
     decide_counted(text, tables, row, values, steps as u16)
 }

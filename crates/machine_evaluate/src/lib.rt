@@ -2,49 +2,46 @@
 // its words, and each use reads them again.
 #![tactic(auto)]
 
-ghost use Rattle.std.specs.Prelude.{◌≡◌, ℕ, ◌*◌, ◌%◌, length, drop, int_lt};
-ghost use Rattle.model.specs.Base.{digit};
+ghost use Rattle.std.specs.Prelude.{◌≡◌, ◌*◌, ◌%◌, length, drop, int_lt};
 ghost use Rattle.model.specs.Text.{words};
 ghost use Rattle.model.specs.Expression.{field, read_levels, signed, operate};
 ghost use Rattle.text_lex.specs.Piece.{words_after};
 ghost use Rattle.text_syntax.specs.Tokens.{said_operator, said_leaf};
-ghost use Rattle.machine_words.specs.Turn.{value_in};
-ghost use Rattle.machine_evaluate.specs.Valued.{valued_at, valued, joined};
+ghost use Rattle.machine_evaluate.specs.Valued.{value_here, valued_at, valued};
 
 use text_syntax::token::{Leaf, Operator, Token, token_of};
 
-// The sign bit of a word.
-const SIGN: u32 = 2147483648;
-
-// The value of an expression and the place after it; Nothing where there is no expression, or where it names a field that the
-// class does not have.
+// The value of an expression, and the place after it.
 #[derive(Clone, Copy)]
-pub enum Value {
-    Found(u32, usize),
-    Nothing,
+pub struct Value {
+    pub number: u32,
+    pub end: usize,
+}
+
+// What an expression is evaluated in: the text and the tables, the class of its object and the object's own values, and what `arg` and
+// `got` are.
+#[derive(Clone, Copy)]
+pub struct Scope<'a> {
+    pub text: &'a [u8],
+    pub tables: &'a [u32],
+    pub class: u32,
+    pub own: &'a [u32],
+    pub arg: u32,
+    pub got: u32,
 }
 
 // The product modulo 2^32.
 fn times(x: u32, y: u32) -> u32
     ensures { result ≡ x * y % 4294967296 }
 {
-    ((x as u64) * (y as u64) % 4294967296) as u32
+    x.wrapping_mul(y)
 }
 
-// 1 where the test passes, else 0.
-fn digit(test: bool) -> u32
-    ensures { result ≡ digit test }
-{
-    if test { 1 } else { 0 }
-}
-
-// Whether x is below y, both read as signed numbers: the order of the words with their sign bits exchanged.
+// Whether x is below y, both read as signed numbers.
 fn is_less(x: u32, y: u32) -> bool
     ensures { result ≡ int_lt (signed x) (signed y) }
 {
-    let left = std::num::wrapping_add_u32(x, SIGN);
-    let right = std::num::wrapping_add_u32(y, SIGN);
-    left < right
+    x.cast_signed() < y.cast_signed()
 }
 
 // The operator's result for two values.
@@ -52,119 +49,81 @@ fn operate(operator: Operator, x: u32, y: u32) -> u32
     ensures { result ≡ operate (said_operator operator) x y }
 {
     match operator {
-        Operator::Plus => std::num::wrapping_add_u32(x, y),
-        Operator::Minus => std::num::wrapping_sub_u32(x, y),
+        Operator::Plus => x.wrapping_add(y),
+        Operator::Minus => x.wrapping_sub(y),
         Operator::Times => times(x, y),
-        Operator::Less => digit(is_less(x, y)),
-        Operator::Equal => digit(x == y),
+        Operator::Less => u32::from(is_less(x, y)),
+        Operator::Equal => u32::from(x == y),
     }
 }
 
-// The value of the field of that name among an object's own values, and the name's length; Nothing where its class has no
-// such field.
-fn field_value(text: &[u8], tables: &[u32], class: u32, own: &[u32], name: &[u8]) -> Value
-    ensures { (arg got : ℕ) → result ≡ valued_at (value_in text.now tables.now class own.now arg got (field name.now)) (length name.now) }
+// The value of the object's field of that name, and the name's length; None where its class has no such field.
+fn field_value(scope: &Scope<'_>, name: &[u8]) -> Option<Value>
+    ensures { result ≡ valued_at (value_here scope.now (field name.now)) (length name.now) }
 {
-    let place = catalog::find(text, tables, class, layout::FIELDS, name);
-    if place < catalog::member_count(tables, class, layout::FIELDS) {
-        Value::Found(memory::get(own, place as usize), name.len())
-    } else {
-        Value::Nothing
-    }
+    let place = catalog::find(scope.text, scope.tables, scope.class, layout::FIELDS, name)?;
+    Some(Value {
+        number: memory::get(scope.own, place as usize),
+        end: name.len(),
+    })
 }
 
-// The value of an expression of one word, and the word's length.
-fn leaf_value(
-    text: &[u8],
-    tables: &[u32],
-    class: u32,
-    own: &[u32],
-    arg: u32,
-    got: u32,
-    word: &[u8],
-    leaf: Leaf,
-) -> Value
-    ensures { result ≡ valued_at (value_in text.now tables.now class own.now arg got (said_leaf word.now leaf)) (length word.now) }
+// The value of an expression of one word, and the word's length; None where it names a field that the class does not have.
+fn leaf_value(scope: &Scope<'_>, word: &[u8], leaf: Leaf) -> Option<Value>
+    ensures { result ≡ valued_at (value_here scope.now (said_leaf word.now leaf)) (length word.now) }
 {
+    let end = word.len();
     match leaf {
-        Leaf::Literal(number) => Value::Found(number, word.len()),
-        Leaf::Field => field_value(text, tables, class, own, word),
-        Leaf::Argument => Value::Found(arg, word.len()),
-        Leaf::Got => Value::Found(got, word.len()),
+        Leaf::Literal(number) => Some(Value { number, end }),
+        Leaf::Field => field_value(scope, word),
+        Leaf::Argument => Some(Value {
+            number: scope.arg,
+            end,
+        }),
+        Leaf::Got => Some(Value {
+            number: scope.got,
+            end,
+        }),
     }
 }
 
-// The operator's result for a first operand and the second, with the place after the second.
-fn joined(operator: Operator, first: u32, second: Value) -> Value
-    ensures { result ≡ joined (said_operator operator) first second }
-{
-    match second {
-        Value::Found(value, end) => Value::Found(operate(operator, first, value), end),
-        Value::Nothing => Value::Nothing,
-    }
-}
-
-// The value of the expression at the front of `rest`, nested at most so many levels deep.
+// The value of the expression at the front of `rest`, nested at most so many levels deep; None where there is no expression, or where it
+// names a field that the class does not have.
 #[cycle(value_after_value_of)]
-pub fn value_of(
-    text: &[u8],
-    tables: &[u32],
-    class: u32,
-    own: &[u32],
-    arg: u32,
-    got: u32,
-    rest: &[u8],
-    levels: usize,
-) -> Value
-    ensures { result ≡ valued (value_in text.now tables.now class own.now arg got) rest.now (read_levels levels (words rest.now)) }
+pub fn value_of(scope: &Scope<'_>, rest: &[u8], levels: usize) -> Option<Value>
+    ensures { result ≡ valued (value_here scope.now) rest.now (read_levels levels (words rest.now)) }
 {
     if levels == 0 {
-        return Value::Nothing;
+        return None;
     }
     let below = levels - 1;
     let end = text_lex::word_end(rest, 0);
-    let token = token_of(&rest[..end]);
-    match token {
+    match token_of(&rest[..end])? {
         Token::Sign(operator) => {
-            let first = value_after(text, tables, class, own, arg, got, rest, end, below);
-            match first {
-                Value::Found(value, next) => {
-                    let second = value_after(text, tables, class, own, arg, got, rest, next, below);
-                    joined(operator, value, second)
-                }
-                Value::Nothing => Value::Nothing,
-            }
+            let first = value_after(scope, rest, end, below)?;
+            let second = value_after(scope, rest, first.end, below)?;
+            Some(Value {
+                number: operate(operator, first.number, second.number),
+                end: second.end,
+            })
         }
-        Token::Single(leaf) => {
-            leaf_value(text, tables, class, own, arg, got, &rest[..end], leaf)
-        }
-        Token::Neither => Value::Nothing,
+        Token::Single(leaf) => leaf_value(scope, &rest[..end], leaf),
     }
 }
 
 // The value of the expression after the space at `at`, read in the part of the line from there on.
 #[cycle(value_after_value_of)]
-pub fn value_after(
-    text: &[u8],
-    tables: &[u32],
-    class: u32,
-    own: &[u32],
-    arg: u32,
-    got: u32,
-    line: &[u8],
-    at: usize,
-    levels: usize,
-) -> Value
-    ensures { result ≡ valued (value_in text.now tables.now class own.now arg got) line.now (read_levels levels (words_after (drop at line.now))) }
+pub fn value_after(scope: &Scope<'_>, line: &[u8], at: usize, levels: usize) -> Option<Value>
+    ensures { result ≡ valued (value_here scope.now) line.now (read_levels levels (words_after (drop at line.now))) }
 {
     if at < line.len() {
         let from = at + 1;
-        let part = value_of(text, tables, class, own, arg, got, &line[from..], levels);
-        match part {
-            Value::Found(value, end) => Value::Found(value, from + end),
-            Value::Nothing => Value::Nothing,
-        }
+        let value = value_of(scope, &line[from..], levels)?;
+        Some(Value {
+            number: value.number,
+            end: from + value.end,
+        })
     } else {
-        Value::Nothing
+        None
     }
 }

@@ -1,6 +1,7 @@
 -- A send that is granted: it starts, or joins the line, or is refused.
-use Rattle.std.specs.Prelude.{ℕ, ◌+◌, ◌≤◌, ◌<◌, ◌≡◌, refl, Bool, true, false, cond, List, length, take, drop}
-use Rattle.std.proofs.Common.{arith, ap₂, ◌∙◌, le-leb}
+use Rattle.std.specs.Prelude.{ℕ, ◌+◌, ◌-◌, ◌++◌, ◌≤◌, ◌<◌, ◌≡◌, refl, Bool, true, false, cond, List, length, take, drop}
+use Rattle.std.proofs.Common.{arith, ap₂, subst, ◌∙◌, le-leb}
+use Rattle.std.proofs.lemmas.List.Edits.{sets}
 use Rattle.std.proofs.Math.Path.{sym, ap}
 use Rattle.std.proofs.Math.Option.{Option, some}
 use Rattle.std.specs.Int.Count.{count_trailing_zeros}
@@ -15,7 +16,7 @@ use Rattle.machine_words.specs.Calls.{Lent, refused, started_at, started_or, joi
 use Rattle.machine_words.specs.Spans.{take_sets}
 use Rattle.machine_take.specs.Taken.{target_locked, locked_length, entered_length, written_again, row_span}
 use Rattle.machine_take.specs.Locking.{place_bit, object_locked}
-use Rattle.machine_checks.specs.Lent.{Within, part, part_is, lent, lent_is}
+use Rattle.machine_checks.specs.Lent.{Within, part_at, lent_at}
 use Rattle.machine_conflicts.specs.Way.{gathered, least_none, least_some}
 use Rattle.machine_locks.specs.OneObject.{ToObject, first_there}
 
@@ -74,10 +75,10 @@ module _ (x : Lent) (s : ℕ) (q : Wanted) (mask count : ℕ) (c : count ≡ cou
         ∙ held_up
 
 -- By whether the slot holds the send's locks already.
-pub granted_by : (x : Lent) (s : ℕ) (q : Wanted) (b : Bool) → b ≡ owns_locks x.text (tables_of x.words) q (part x.words s) → (t : Bool) → b ≡ t
+pub granted_by : (x : Lent) (s : ℕ) (q : Wanted) (b : Bool) → b ≡ owns_locks x.text (tables_of x.words) q (row_of x.words s) → (t : Bool) → b ≡ t
     → granted_or x s q t ≡ granted x s q
 unfolding granted
-granted_by x s q b e t i = ap (granted_or x s q) (sym i ∙ e ∙ ap (owns_locks x.text (tables_of x.words) q) (part_is x.words s))
+granted_by x s q b e t i = ap (granted_or x s q) (sym i ∙ e)
 
 -- A send that nobody is in the way of starts, whether it needs a new lock or not.
 pub granted_free : (x : Lent) (s : ℕ) (q : Wanted) → 0 ≡ gathered (in_the_way x.text x.words (count_in x.words) s q) 8
@@ -88,6 +89,11 @@ granted_free x s q e = go (owns_locks x.text (tables_of x.words) q (row_of x.wor
     go : (b : Bool) → started_or x s q (first_in x q) ≡ granted_or x s q b
     go true = refl
     go false = arrives_free x s q 0 (count_in x.words) refl e refl
+
+-- The locks in a slot's row, which begins at a.
+pub lock_at : (text was now : List ℕ) (q : Wanted) (s a : ℕ) → a ≡ row_start s → now ≡ sets was a (locked text (tables_of was) q (take row_words (drop a was)))
+    → now ≡ with_row was s (locked text (tables_of was) q (take row_words (drop (row_start s) was)))
+lock_at text was now q s a e l = subst (λ (i : ℕ). now ≡ sets was i (locked text (tables_of was) q (take row_words (drop i was)))) e l
 
 module _ (text ws : List ℕ) (s : ℕ) (h : Within ws s) (q : Wanted) where
   -- The locks, then the message.
@@ -108,18 +114,18 @@ module _ (text ws : List ℕ) (s : ℕ) (h : Within ws s) (q : Wanted) where
         locked_entered
         (written_again ws (row_start s) row_words (row_span ws s h).fits (locked text (tables_of ws) q) (locked_length text (tables_of ws) q) was now row long e l') r
 
-  -- Both in the lent row, for a send to an object: its locks are held on the object and on its class.
-  pub taken_lent : ToObject (tables_of ws) q → (f : First) → f ≡ first_of text (tables_of ws) q → (bits : ℕ) → bits ≡ place_bit q.place
-      → (one row row' : List ℕ) → one ≡ with_bits (part ws s) (object_locks_at + q.number) bits → row ≡ with_bits one (class_locks_at + q.class) bits
+  -- Both in the lent row, for a send to an object: its locks are held on the object and on its class. The row stands from a to z.
+  pub taken_lent : (a z : ℕ) → a ≡ row_start s → z ≡ row_start s + row_words → ToObject (tables_of ws) q → (f : First) → f ≡ first_of text (tables_of ws) q → (bits : ℕ) → bits ≡ place_bit q.place
+      → (one row row' : List ℕ) → one ≡ with_bits (take (z - a) (drop a ws)) (object_locks_at + q.number) bits → row ≡ with_bits one (class_locks_at + q.class) bits
       → length row' ≡ row_words → row' ≡ entered q f row
-      → lent ws s row' ≡ with_row ws s (entered q (first_of text (tables_of ws) q) (locked text (tables_of ws) q (row_of ws s)))
-  taken_lent t f e bits b one row row' o r long r' =
+      → take a ws ++ (row' ++ drop (z - a) (drop a ws)) ≡ with_row ws s (entered q (first_of text (tables_of ws) q) (locked text (tables_of ws) q (row_of ws s)))
+  taken_lent a z p w t f e bits b one row row' o r long r' =
       let held : List ℕ = locked text (tables_of ws) q (row_of ws s) in
       let is : row ≡ held =
-      r ∙ ap (λ (l : List ℕ). with_bits l (class_locks_at + q.class) bits) (o ∙ ap (λ (l : List ℕ). with_bits l (object_locks_at + q.number) bits) (part_is ws s))
+      r ∙ ap (λ (l : List ℕ). with_bits l (class_locks_at + q.class) bits) (o ∙ ap (λ (l : List ℕ). with_bits l (object_locks_at + q.number) bits) (part_at ws s a z p w))
       ∙ ap (λ (x : ℕ). with_bits (with_bits (row_of ws s) (object_locks_at + q.number) x) (class_locks_at + q.class) x) b ∙ object_locked q (row_of ws s) t.kind_is
       ∙ target_locked text (tables_of ws) q (row_of ws s) (omega (arith, t.kind_is)) t.few in
-      lent_is ws s h row' (entered q (first_of text (tables_of ws) q) held) long (r' ∙ ap₂ (entered q) e is)
+      lent_at ws s h a z p w row' (entered q (first_of text (tables_of ws) q) held) long (r' ∙ ap₂ (entered q) e is)
 
 -- A send that starts at once starts on an object.
 pub at_once_there : (text tables : List ℕ) (q : Wanted) → ToObject tables q → named_at tables q.class q.place q.name ≡ true → first_of text tables q ≡ nowhere → ⊥

@@ -1,10 +1,10 @@
 -- A send to an existing object: its message starts on it.
-use Rattle.std.specs.Prelude.{ℕ, ◌+◌, ◌-◌, ◌%◌, ◌<◌, ◌≡◌, refl, Bool, true, ◌&&◌, List, eqb, ltb}
+use Rattle.std.specs.Prelude.{ℕ, ◌+◌, ◌-◌, ◌%◌, ◌<◌, ◌≡◌, refl, Bool, true, ◌&&◌, List, eqb, ltb, Some}
 use Rattle.std.proofs.Common.{sym, ap, ◌∙◌, arith, eq-eqb, lt-ltb}
 use Rattle.layout.specs.Layout.{method_names_at, object_class_at}
 use Rattle.catalog.specs.View.{object_word, class_word, class_count, object_count, member_count, member_at}
 use Rattle.laws.specs.Lists.{both_left}
-use Rattle.catalog.specs.declared.body.Body.TheVariants.{Found}
+use Rattle.catalog.specs.declared.body.Statements.{Statements}
 use Rattle.catalog.specs.Bodies.{named_at, Bounds, by_place}
 use Rattle.machine_words.specs.Turn.{in_target, object_from, target_there}
 use Rattle.machine_words.specs.Request.{Wanted, on, first_of, is_sendable}
@@ -40,7 +40,8 @@ pub first_there : (text tables : List ℕ) (q : Wanted) → ToObject tables q �
 unfolding object_from in_target
 first_there text tables q o w first end b =
     let h : q.number < object_count tables = o.object_is.there in
+    let body : Statements = record { first = first; end = end } in
     let e : q.number ≡ object_from tables q.kind q.number 0 =
     one_there q.number (object_count tables - 0) 0 (omega arith) (omega (arith, h)) ∙ ap (λ (x : ℕ). object_from tables x q.number 0) (sym o.kind_is) in
-    first_on_law text tables q true (sym (object_sendable tables q o w)) refl q.number (object_count tables) e refl h q.class o.object_is.class_is (Found first end)
-    (by_place text tables q.class q.place q.name true (sym w) refl first end b)
+    first_on_law text tables q true (sym (object_sendable tables q o w)) refl q.number (object_count tables) e refl h q.class o.object_is.class_is (Some body)
+    (by_place text tables q.class q.place q.name true (sym w) refl body b)

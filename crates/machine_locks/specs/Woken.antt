@@ -2,17 +2,16 @@
 use Prim.Native.Nat.{ℕ, suc, ◌+◌, ◌-◌, ◌≤◌, ◌<◌}
 use native.Mathlib.Omega.{arith}
 use Rattle.std.proofs.Common.{add-one, sym, subst, ◌∙◌, ltb-true}
-use Rattle.std.specs.Prelude.{◌≡◌, refl, Bool, true, false, cond, ◌&&◌, List, get_or, take, drop, set, ltb}
+use Rattle.std.specs.Prelude.{◌≡◌, refl, Bool, true, false, cond, ◌&&◌, List, get_or, set, ltb}
 use Rattle.std.proofs.Math.Path.{ap, ap₂}
 use Rattle.std.proofs.Math.Option.{Option, none, some}
 use Rattle.std.proofs.lemmas.List.{set-get_or}
-use Rattle.layout.specs.Layout.{waiting_at, waiting_words, line_at}
+use Rattle.layout.specs.Layout.{line_at}
 use Rattle.laws.specs.Lists.{both_right}
 use Rattle.catalog.specs.View.{class_count, member_count}
 use Rattle.machine_words.specs.Turn.{target_there}
 use Rattle.machine_words.specs.Request.{Wanted, is_sendable, First, on, past, nowhere, first_of}
-use Rattle.machine_words.specs.Line.{tables_of, row_start, wanted_in, waiting_send, count_in, slot_at, in_the_way, obstacle, Waking, kept_at, started_from, started_or_kept, woken_or, is_waiting, woken_slot, woken_from, woken}
-use Rattle.machine_conflicts.specs.Ahead.{waiting_send_law}
+use Rattle.machine_words.specs.Line.{tables_of, waiting_send, count_in, slot_at, in_the_way, obstacle, Waking, kept_at, started_from, started_or_kept, woken_or, is_waiting, woken_slot, woken_from, woken}
 use Rattle.machine_conflicts.specs.Clashing.{few_members}
 use Rattle.machine_conflicts.specs.Way.{gathered, least_none, least_some}
 
@@ -56,10 +55,10 @@ module _ (ws : List ℕ) (t : ℕ) where
     unfolding woken_slot
     leaves_line z = rw (← e, z)
 
-    pub wakes_slot : b ≡ true → (q : Wanted) → q ≡ wanted_in (tables_of ws) (take (row_start t + waiting_at + waiting_words - (row_start t + waiting_at)) (drop (row_start t + waiting_at) ws))
+    pub wakes_slot : b ≡ true → (q : Wanted) → q ≡ waiting_send ws t
         → woken_or text ws n t q (obstacle text ws n t q) ≡ woken_slot text ws n t
     unfolding woken_slot
-    wakes_slot z q w = rw (← e, z) (ap (λ (x : Wanted). woken_or text ws n t x (obstacle text ws n t x)) (waiting_send_law ws t q w))
+    wakes_slot z q w = rw (← e, z) (ap (λ (x : Wanted). woken_or text ws n t x (obstacle text ws n t x)) w)
 
 -- A send that starts has a place below 32.
 pub few_places : (text tables : List ℕ) (q : Wanted) (f : First) → f ≡ first_of text tables q → (f ≡ nowhere → ⊥) → q.place < 32

@@ -5,61 +5,50 @@ ghost use Rattle.machine_words.specs.Calls.{lending, tables_of, sent_to, sent_by
 ghost use Rattle.machine_words.specs.Said.{aimed};
 ghost use Rattle.machine_checks.specs.Told.{Leaves};
 ghost use Rattle.machine_checks.specs.Lent.{Within};
-ghost use Rattle.machine_locks.specs.Outcomes.{outcome_of};
 ghost use Rattle.machine_locks.specs.OneObject.{ObjectOf};
 ghost use Rattle.machine_locks.specs.Sent.{method_refusal, class_sent};
+ghost use Rattle.refusals.specs.Numbers.{refusal_in};
 
 use super::grant::{grant, grant_object};
+use machine_checks::tables_of;
 use machine_conflicts::clash::domain_lacks;
 use machine_conflicts::line::wanted_of;
-use machine_words::Target;
+use machine_words::{Outcome, Target};
+use refusals::Refusal;
 
-// 01's number where the target's class has no such method.
-const NO_METHOD: u32 = 36;
-
-// 24 where there is no such class, 36 where it has no such method; else 0.
-fn method_refusal(tables: &[u32], class: u32, place: u32) -> u32
-    ensures { result ≡ method_refusal tables.now class place }
+// Refuses a class that does not exist, and a place where it has no method.
+fn method_refusal(tables: &[u32], class: u32, place: u32) -> Result<(), Refusal>
+    ensures { refusal_in result ≡ method_refusal tables.now class place }
 {
     if catalog::class_count(tables) <= class {
-        return 24;
+        return Err(Refusal::Misfit);
     }
     if catalog::member_count(tables, class, layout::METHODS) <= place {
-        return NO_METHOD;
+        return Err(Refusal::NothingThere);
     }
-    0
+    Ok(())
 }
 
-// Sends to a class's own objects (kind 1) or to a domain (kind 2), by the methods of a class; 24 where a class of the domain
-// lacks the method.
+// Sends to a class's own objects (kind 1) or to a domain (kind 2), by the class's methods; refuses it where a class of the
+// domain lacks the method.
 fn send_to(
     text: &[u8],
     state: &mut [u32],
     slot: u32,
     kind: u32,
-    number: u32,
     class: u32,
     place: u32,
     argument: u32,
-) -> u32
+) -> Result<Outcome, Refusal>
     requires { Within state.old slot }
-    ensures { (values : List ℕ) → Leaves (sent_to (lending text.now state.old values) slot kind number class place argument)
-        (outcome_of result) (lending text.now state.new values) }
+    ensures { (values : List ℕ) → Leaves (sent_to (lending text.now state.old values) slot kind class class place argument)
+        result (lending text.now state.new values) }
 {
-    let fault = method_refusal(&state[0..layout::TABLE_WORDS], class, place);
-    if fault != 0 {
-        return fault;
-    }
-    let wanted = wanted_of(
-        &state[0..layout::TABLE_WORDS],
-        kind,
-        number,
-        class,
-        place,
-        argument,
-    );
-    if domain_lacks(text, &state[0..layout::TABLE_WORDS], wanted) {
-        return 24;
+    let tables = tables_of(state);
+    method_refusal(tables, class, place)?;
+    let wanted = wanted_of(tables, kind, class, class, place, argument);
+    if domain_lacks(text, tables, wanted) {
+        return Err(Refusal::Misfit);
     }
     grant(text, state, slot, wanted)
 }
@@ -73,18 +62,15 @@ fn send_to_object(
     class: u32,
     place: u32,
     argument: u32,
-) -> u32
+) -> Result<Outcome, Refusal>
     requires { Within state.old slot × ObjectOf (tables_of state.old) number class }
     ensures { (values : List ℕ) → Leaves (sent_to (lending text.now state.old values) slot 0 number class place argument)
-        (outcome_of result) (lending text.now state.new values) }
+        result (lending text.now state.new values) }
 {
-    let refusal = method_refusal(&state[0..layout::TABLE_WORDS], class, place);
-    if refusal != 0 {
-        return refusal;
-    }
+    method_refusal(tables_of(state), class, place)?;
     let wanted = wanted_of(
-        &state[0..layout::TABLE_WORDS],
-        0,
+        tables_of(state),
+        layout::OBJECT_KIND,
         number,
         class,
         place,
@@ -93,7 +79,7 @@ fn send_to_object(
     grant_object(text, state, slot, wanted)
 }
 
-// Sends to an object; 36 where there is none.
+// Sends to an object, if there is such a one.
 fn send_object(
     text: &[u8],
     state: &mut [u32],
@@ -101,19 +87,19 @@ fn send_object(
     number: u32,
     place: u32,
     argument: u32,
-) -> u32
+) -> Result<Outcome, Refusal>
     requires { Within state.old slot }
     ensures { (values : List ℕ) → Leaves (sent_by (lending text.now state.old values) slot (to (object number) place argument))
-        (outcome_of result) (lending text.now state.new values) }
+        result (lending text.now state.new values) }
 {
-    if catalog::object_count(&state[0..layout::TABLE_WORDS]) <= number {
-        return 36;
+    if catalog::object_count(tables_of(state)) <= number {
+        return Err(Refusal::NothingThere);
     }
-    let class = catalog::class_of(&state[0..layout::TABLE_WORDS], number);
+    let class = catalog::class_of(tables_of(state), number);
     send_to_object(text, state, slot, number, class, place, argument)
 }
 
-// Sends to a class's own objects (kind 1) or to its domain (kind 2); 36 where there is no such class.
+// Sends to a class's own objects (kind 1) or to its domain (kind 2), if there is such a class.
 fn send_class(
     text: &[u8],
     state: &mut [u32],
@@ -122,19 +108,18 @@ fn send_class(
     class: u32,
     place: u32,
     argument: u32,
-) -> u32
+) -> Result<Outcome, Refusal>
     requires { Within state.old slot }
     ensures { (values : List ℕ) → Leaves (class_sent (lending text.now state.old values) slot kind class place argument)
-        (outcome_of result) (lending text.now state.new values) }
+        result (lending text.now state.new values) }
 {
-    if catalog::class_count(&state[0..layout::TABLE_WORDS]) <= class {
-        return 36;
+    if catalog::class_count(tables_of(state)) <= class {
+        return Err(Refusal::NothingThere);
     }
-    send_to(text, state, slot, kind, class, class, place, argument)
+    send_to(text, state, slot, kind, class, place, argument)
 }
 
-// Sends by the target. Answers 0 where the send is granted; 24, 36 or 42; or 64 plus the slot in its way. The answer is not yet an
-// outcome, so that it stays in a register; the rarer targets get parts of what is lent, as in `grant_object`.
+// Sends by the target. The rarer targets get parts of what is lent, as in `grant_object`.
 pub fn request(
     text: &[u8],
     state: &mut [u32],
@@ -142,10 +127,10 @@ pub fn request(
     target: Target,
     place: u32,
     argument: u32,
-) -> u32
+) -> Result<Outcome, Refusal>
     requires { Within state.old slot }
     ensures { (values : List ℕ) → Leaves (sent_by (lending text.now state.old values) slot (to (aimed target) place argument))
-        (outcome_of result) (lending text.now state.new values) }
+        result (lending text.now state.new values) }
 {
     match target {
         Target::Object(object) => send_object(text, state, slot, object, place, argument),
@@ -153,7 +138,7 @@ pub fn request(
             &text[0..],
             &mut state[0..],
             slot,
-            1,
+            layout::CLASS_KIND,
             class,
             place,
             argument,
@@ -162,7 +147,7 @@ pub fn request(
             &text[0..],
             &mut state[0..],
             slot,
-            2,
+            layout::DOMAIN_KIND,
             class,
             place,
             argument,

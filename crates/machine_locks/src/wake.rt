@@ -1,5 +1,5 @@
 // Wakes those who wait, when a transaction has ended: from the front, each starts that no holder and no one still ahead is in the way of.
-ghost use Rattle.std.specs.Prelude.{suc, ◌≤◌, ◌<◌, ◌≡◌, length};
+ghost use Rattle.std.specs.Prelude.{Some, suc, ◌≤◌, ◌<◌, ◌≡◌, length};
 ghost use Rattle.layout.specs.Layout.{state_words};
 ghost use Rattle.machine_words.specs.Request.{locked, entered};
 ghost use Rattle.machine_words.specs.Line.{tables_of, row_of, with_row, withdrawn, with_place, woken_or, obstacle, woken_slot, woken};
@@ -7,24 +7,25 @@ ghost use Rattle.machine_words.specs.Said.{asked, said_first};
 ghost use Rattle.machine_checks.specs.Lent.{Within};
 ghost use Rattle.machine_locks.specs.Woken.{Leaving};
 
+use machine_checks::{row_range, tables_of, waiting_of};
 use machine_conflicts::clash::clashing;
 use machine_conflicts::line::{is_waiting, slot_at, waiting_count, wanted_in};
 use machine_take::start::{first_object, start_message};
 use machine_take::take::lock;
 use machine_take::wait::withdraw;
-use machine_words::{First, Wanted};
+use machine_words::{Start, Wanted};
 
 // Starts a slot's waiting send, which leaves the line.
-fn start_waiting(text: &[u8], state: &mut [u32], slot: u32, wanted: Wanted, first: First)
+fn start_waiting(text: &[u8], state: &mut [u32], slot: u32, wanted: Wanted, first: Start)
     requires { Within state.old slot × (wanted.place < 32) }
-    ensures { state.new ≡ with_row state.old slot (entered (asked wanted) (said_first first)
+    ensures { state.new ≡ with_row state.old slot (entered (asked wanted) (said_first (Some first))
         (locked text.now (tables_of state.old) (asked wanted) (withdrawn (row_of state.old slot)))) }
 {
-    let start = layout::TABLE_WORDS + slot as usize * layout::ROW_WORDS;
-    let end = start + layout::ROW_WORDS;
-    withdraw(&mut state[start..end]);
+    let row = row_range(slot);
+    let start = row.start;
+    withdraw(&mut state[row]);
     lock(text, state, start, layout::ROW_WORDS, wanted);
-    start_message(state, slot, wanted, first);
+    start_message(state, slot, wanted, Some(first));
 }
 
 // Keeps a slot waiting, at the place after those ahead. Answers how many are ahead of the next one.
@@ -45,10 +46,9 @@ fn wake_waiting(text: &[u8], state: &mut [u32], ahead: u32, slot: u32, wanted: W
     if clashing(text, state, ahead, slot, wanted) != 0 {
         return keep_waiting(state, ahead, slot);
     }
-    let first = first_object(text, &state[0..layout::TABLE_WORDS], wanted);
-    if let First::Nowhere = first {
+    let Some(first) = first_object(text, tables_of(state), wanted) else {
         return keep_waiting(state, ahead, slot);
-    }
+    };
     start_waiting(text, state, slot, wanted, first);
     ahead
 }
@@ -61,9 +61,7 @@ fn wake_slot(text: &[u8], state: &mut [u32], ahead: u32, slot: u32) -> u32
     if !is_waiting(state, slot) {
         return ahead;
     }
-    let start = layout::TABLE_WORDS + slot as usize * layout::ROW_WORDS + layout::WAITING_AT;
-    let end = start + layout::WAITING_WORDS;
-    let wanted = wanted_in(&state[0..layout::TABLE_WORDS], &state[start..end]);
+    let wanted = wanted_in(tables_of(state), waiting_of(state, slot));
     wake_waiting(text, state, ahead, slot, wanted)
 }
 
@@ -77,11 +75,9 @@ pub fn wake(text: &[u8], state: &mut [u32])
         return;
     }
     let mut ahead = 0u32;
-    let mut place = 0u32;
-    while place < count {
+    for place in 0..count {
         let slot = slot_at(state, place);
         ahead = wake_slot(text, state, ahead, slot);
-        place += 1;
     }
     memory::put(state, layout::LINE_AT, ahead);
 }

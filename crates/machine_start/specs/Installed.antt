@@ -1,10 +1,10 @@
 -- Filled tables laid into the state, with its eight slots closed and nobody in line: how that is done, and that it is a fresh start.
-use Rattle.std.specs.Prelude.{ℕ, zero, suc, ◌+◌, ◌*◌, ◌≤◌, ◌<◌, ◌≡◌, List, ◌∷◌, ◌++◌, get_or, take, drop, set, replicate}
+use Rattle.std.specs.Prelude.{ℕ, zero, suc, ◌+◌, ◌*◌, ◌≤◌, ◌<◌, ◌≡◌, List, ◌∷◌, ◌++◌, get_or, take, drop, replicate}
 use Rattle.std.proofs.Math.Path.{refl, sym, ap}
-use Rattle.std.proofs.Common.{ap₂, subst, ◌∙◌, append_assoc, add-one, arith, length-append, get_or-append-add, take_all, take_at, drop_at, drop-drop}
+use Rattle.std.proofs.Common.{ap₂, subst, ◌∙◌, arith, length-append, get_or-append-add, take_at, drop_at, drop-drop}
 use Rattle.std.proofs.Math.ListN.{length, get_or-append}
 use Rattle.std.proofs.lemmas.List.{length-replicate, get_or-replicate}
-use Rattle.std.proofs.Math.Seq.{drop-append-add, paste, paste-suc}
+use Rattle.std.proofs.Math.Seq.{drop-append-add}
 use borrow.Author.Tests.{le-ltb, le-leb, eq-eqb}
 use Rattle.layout.specs.Layout.{values_most, slots_most, value_count_at, text_length_at, start_mark_at, table_words, row_words, line_at, slots_words, state_words, classes_most, statements_most, objects_most, class_count_at, statement_count_at, object_count_at}
 use Rattle.model.specs.Vector.{program}
@@ -21,21 +21,6 @@ abbrev pub installed : List ℕ → List ℕ → List ℕ
 installed tables rest = tables ++ (replicate slots_words 0 ++ rest)
 
 -- ---- how it is done
-
-module _ (ws run : List ℕ) (at : ℕ) where
-  -- A turn of a loop that lays the run over the words from `at` on.
-  pub paste_more : (now : List ℕ) (i j v : ℕ) → now ≡ paste ws at run i → at + i < length ws → i < length run → j ≡ at + i → v ≡ get_or run i 0
-      → set now j v ≡ paste ws at run (i + 1)
-  paste_more now i j v q h k place value =
-      ap (λ (l : List ℕ). set l j v) q
-      ∙ ap₂ (set (paste ws at run i)) place value
-      ∙ paste-suc ws at run i 0 h k
-      ∙ ap (paste ws at run) (sym (add-one i))
-
-  pub paste_all : (n : ℕ) → length run ≡ n → paste ws at run n ≡ take at ws ++ (run ++ drop (at + n) ws)
-  paste_all n e =
-      ap (λ (l : List ℕ). take at ws ++ l ++ drop (at + n) ws) (take_all n run (omega arith))
-      ∙ append_assoc (take at ws) run (drop (at + n) ws)
 
 -- What lies past the tables.
 past_tables : (tables behind : List ℕ) (k : ℕ) → length tables ≡ table_words → drop (table_words + k) (tables ++ behind) ≡ drop k behind

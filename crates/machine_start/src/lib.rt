@@ -24,10 +24,8 @@ fn domain_mask(tables: &[u32], class: u32) -> u32
 {
     let count = catalog::class_count(tables);
     let mut mask = 0;
-    let mut other = 0;
-    while other < count {
+    for other in 0..count {
         mask = vector_direct::with_bit(mask, other, belongs(tables, class, other));
-        other += 1;
     }
     mask
 }
@@ -37,11 +35,9 @@ fn fill_domains(tables: &mut [u32])
     ensures { tables.new ≡ with_domains tables.old (class_count tables.old) }
 {
     let count = catalog::class_count(tables);
-    let mut class = 0;
-    while class < count {
+    for class in 0..count {
         let mask = domain_mask(tables, class);
         catalog::put_class_word(tables, class, layout::DOMAIN_AT, mask);
-        class += 1;
     }
 }
 
@@ -52,12 +48,14 @@ fn fill_places(tables: &mut [u32]) -> u32
 {
     let count = catalog::object_count(tables);
     let mut values = 0;
-    let mut object = 0;
-    while object < count {
-        let fields = catalog::shown_count(tables, catalog::class_of(tables, object), 0);
+    for object in 0..count {
+        let fields = catalog::shown_count(
+            tables,
+            catalog::class_of(tables, object),
+            layout::FIELDS,
+        );
         catalog::put_object_word(tables, object, layout::OBJECT_VALUES_AT, values);
         values += fields;
-        object += 1;
     }
     values
 }
@@ -100,11 +98,7 @@ fn lay_tables(tables: &[u32], state: &mut [u32])
     requires { (length tables.now ≡ table_words) × (table_words ≤ length state.old) }
     ensures { state.new ≡ tables.now ++ drop table_words state.old }
 {
-    let mut i = 0;
-    while i < layout::TABLE_WORDS {
-        state[i] = tables[i];
-        i += 1;
-    }
+    state[..layout::TABLE_WORDS].copy_from_slice(tables);
 }
 
 // Closes the eight slots and empties the line: clears all words of the rows and of the line.
@@ -112,11 +106,8 @@ fn close_slots(state: &mut [u32])
     requires { state_words ≤ length state.old }
     ensures { state.new ≡ take table_words state.old ++ (replicate slots_words 0 ++ drop state_words state.old) }
 {
-    let mut i = 0;
-    while i < layout::SLOTS_WORDS {
-        state[layout::TABLE_WORDS + i] = 0;
-        i += 1;
-    }
+    let end = layout::TABLE_WORDS + layout::SLOTS_WORDS;
+    state[layout::TABLE_WORDS..end].fill(0);
 }
 
 // Lays filled tables into the state, closes its eight slots and empties the line; what lies past the machine's words stays.

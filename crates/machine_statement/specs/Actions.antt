@@ -5,7 +5,7 @@ use borrow.Author.Tests.{lt-ltb, le-ltb, le-leb, lt-leb}
 use Rattle.model.specs.Base.{bytes, same}
 use Rattle.model.specs.Text.{pieces}
 use Rattle.model.specs.Word.{is_name}
-use Rattle.model.specs.Expression.{Expression, Parsed}
+use Rattle.model.specs.Expression.{Parsed}
 use Rattle.model.specs.Form.{Change, replace, increase, Keyword, class_word, field_word, method_word, end_word, object_word, set_word, add_word, send_word, reply_word, when_word, other_word, Action, Statement}
 use Rattle.model.specs.Library.{Member, member_place, class_number}
 use Rattle.text_lex.specs.Scan.{is_byte, before}
@@ -13,12 +13,13 @@ use Rattle.text_lex.specs.Piece.{pieces_after, first, others, is_empty, first_pi
 use Rattle.text_syntax.specs.Kinds.{is_action, is_target}
 use Rattle.catalog.specs.View.{member_count, members_of, library_of}
 use Rattle.machine_evaluate.specs.declared.Value.{Value}
-use Rattle.machine_evaluate.specs.Valued.{valued}
+use Rattle.machine_evaluate.specs.Valued.{value_here, valued}
 use Rattle.machine_words.specs.Row.{Turn, misfit, stop, skip, assign, call, reply}
 use Rattle.catalog.specs.Bodies.{body_in, bounds_of}
-use Rattle.machine_words.specs.Turn.{value_in, assign_turn, call_turn, action_turn, statement_turn}
-use Rattle.catalog.specs.declared.body.Body.{Body}
-use Rattle.catalog.specs.declared.body.Body.TheVariants.{Found, Missing}
+use Rattle.machine_words.specs.Turn.{assign_turn, call_turn, action_turn, statement_turn}
+use Rattle.catalog.specs.declared.body.Statements.{Statements}
+use Rattle.std.specs.Prelude as rust
+use Rattle.std.specs.Prelude.{Some, None}
 use Rattle.machine_statement.specs.declared.line.Frame.{Frame}
 
 abbrev pub is_when : Keyword → Bool
@@ -74,39 +75,35 @@ target_body text tables c ps =
     (body_in text tables (class_number (library_of text tables) (first ps)) (first (others ps)))
 
 -- The turn for the keyword, the word w after it and the value v.
-abbrev pub acted_turn : List ℕ → List ℕ → Frame → Keyword → List ℕ → ℕ → Turn
-acted_turn text tables frame set_word w v = assign_turn text tables frame.class frame.base replace w v
-acted_turn text tables frame add_word w v = assign_turn text tables frame.class frame.base increase w v
-acted_turn text tables frame send_word w v = call_turn frame.depth (target_body text tables frame.class (pieces 46 w)) v
-acted_turn text tables frame reply_word w v = reply v
-acted_turn text tables frame class_word w v = misfit
-acted_turn text tables frame field_word w v = misfit
-acted_turn text tables frame method_word w v = misfit
-acted_turn text tables frame end_word w v = misfit
-acted_turn text tables frame object_word w v = misfit
-acted_turn text tables frame when_word w v = misfit
-acted_turn text tables frame other_word w v = misfit
+abbrev pub acted_turn : Frame → Keyword → List ℕ → ℕ → Turn
+acted_turn frame set_word w v = assign_turn frame.scope.text.now frame.scope.tables.now frame.scope.class frame.base replace w v
+acted_turn frame add_word w v = assign_turn frame.scope.text.now frame.scope.tables.now frame.scope.class frame.base increase w v
+acted_turn frame send_word w v = call_turn frame.depth (target_body frame.scope.text.now frame.scope.tables.now frame.scope.class (pieces 46 w)) v
+acted_turn frame reply_word w v = reply v
+acted_turn frame class_word w v = misfit
+acted_turn frame field_word w v = misfit
+acted_turn frame method_word w v = misfit
+acted_turn frame end_word w v = misfit
+acted_turn frame object_word w v = misfit
+acted_turn frame when_word w v = misfit
+acted_turn frame other_word w v = misfit
 
 -- The turn of an action after a guard of value 0; a misfit where there is no action.
 abbrev pub skipped_turn : Option Action → Turn
 skipped_turn a = cond (is_action a) skip misfit
 
--- In a frame whose object has the values `own`.
-module _ (text tables own : List ℕ) (frame : Frame) where
-  -- An expression's value, and what the evaluator answers for one that was read at the front of s.
-  abbrev pub value_here : Expression → Option ℕ
-  value_here = value_in text tables frame.class own frame.arg frame.got
-
-  abbrev pub valued_in : List ℕ → Parsed → Value
-  valued_in = valued value_here
+module _ (frame : Frame) where
+  -- What the evaluator answers for an expression that was read at the front of s.
+  abbrev pub valued_in : List ℕ → Parsed → rust.Option Value
+  valued_in = valued (value_here frame.scope)
 
   abbrev pub turn_in : Statement → Turn
-  turn_in = statement_turn text tables frame.class frame.base frame.depth value_here
+  turn_in = statement_turn frame.scope.text.now frame.scope.tables.now frame.scope.class frame.base frame.depth (value_here frame.scope)
 
   -- The turn of an action that was read; a misfit where there is none.
   abbrev pub formed_turn : Option Action → Turn
   formed_turn none = misfit
-  formed_turn (some a) = action_turn text tables frame.class frame.base frame.depth value_here a
+  formed_turn (some a) = action_turn frame.scope.text.now frame.scope.tables.now frame.scope.class frame.base frame.depth (value_here frame.scope) a
 
 -- The target t, whose first point is at e, or which has none.
 module _ (text tables : List ℕ) (c : ℕ) (t : List ℕ) (e : ℕ) (h : e ≡ 0 + before (is_byte 46) t) where
@@ -120,9 +117,9 @@ module _ (text tables : List ℕ) (c : ℕ) (t : List ℕ) (e : ℕ) (h : e ≡ 
   target_other l d p m q = rw (first_piece 46 t e h, empty_after 46 t e, lt-leb (length t) e l, p, q)
 
 -- The turn of a self-call, by the answer for its body.
-abbrev pub call_by : ℕ → ℕ → Body → Turn
-call_by depth v (Found first end) = cond (leb 8 depth) stop (call first end v)
-call_by depth v Missing = misfit
+abbrev pub call_by : ℕ → ℕ → rust.Option Statements → Turn
+call_by depth v (Some s) = cond (leb 8 depth) stop (call s.first s.end v)
+call_by depth v None = misfit
 
 pub called_by : (depth v : ℕ) (m : Option Member) → call_by depth v (bounds_of m) ≡ call_turn depth m v
 called_by depth v none = refl

@@ -22,27 +22,28 @@ use Rattle.text_syntax.specs.Reading.{Left, tail_after, left_behind}
 use Rattle.text_syntax.specs.Kinds.{kind_of, is_target, fits, kind_by, kind_as, and_yes}
 use Rattle.catalog.specs.View.{part_of, statement_word, class_count, member_count}
 use Rattle.catalog.specs.View as View
-use Rattle.machine_evaluate.specs.declared.Value.TheVariants.{Found, Nothing}
-use Rattle.machine_evaluate.specs.Valued.{found_value, not_found, value_placed}
+use Rattle.machine_evaluate.specs.declared.Value.{Value}
+use Rattle.std.specs.Prelude.{Some, None}
+use Rattle.machine_evaluate.specs.Valued.{value_here, found_value, not_found, value_placed}
 use Rattle.machine_words.specs.Row.{Turn, misfit, skip}
-use Rattle.machine_words.specs.Turn.{assign_turn, with_value, call_turn, action_turn, form_turn, line_turn}
+use Rattle.machine_words.specs.Turn.{value_in, statement_turn, assign_turn, with_value, call_turn, action_turn, form_turn, line_turn}
 use Rattle.machine_statement.specs.declared.line.Frame.{Frame}
-use Rattle.machine_statement.specs.Actions.{is_when, is_begun, skipped, target_body, acted_turn, skipped_turn, value_here, valued_in, turn_in, formed_turn}
+use Rattle.machine_statement.specs.Actions.{is_when, is_begun, skipped, target_body, acted_turn, skipped_turn, valued_in, turn_in, formed_turn}
 
 -- A test between two misfits.
 either_misfit : (t : Bool) → misfit ≡ cond t misfit misfit
 either_misfit true = refl
 either_misfit false = refl
 
-module _ (text tables own : List ℕ) (frame : Frame) where
+module _ (frame : Frame) where
   abbrev value : Expression → Option ℕ
-  value = value_here text tables own frame
+  value = value_here frame.scope
 
   abbrev formed : Option Action → Turn
-  formed = formed_turn text tables own frame
+  formed = formed_turn frame
 
   abbrev turn_of : Form → Turn
-  turn_of f = form_turn f (turn_in text tables own frame)
+  turn_of f = form_turn f (turn_in frame)
 
   -- ---- an action, by the words up to its expression and the expression's value
 
@@ -63,7 +64,7 @@ module _ (text tables own : List ℕ) (frame : Frame) where
   given_turn false u a x h = refl
 
   target_turn : (ps ws : List (List ℕ))
-      → formed (send_to ps ws) ≡ cond (is_target ps) (whole_turn (call_turn frame.depth (target_body text tables frame.class ps)) (expression ws)) misfit
+      → formed (send_to ps ws) ≡ cond (is_target ps) (whole_turn (call_turn frame.depth (target_body frame.scope.text.now frame.scope.tables.now frame.scope.class ps)) (expression ws)) misfit
   unfolding is_target is_name target_body action_turn
   target_turn [] ws = refl
   target_turn (m ∷ []) ws = rw (and_yes (is_name m)) (whole_turn_law (is_name m) (send m) _ (expression ws) (λ e. refl))
@@ -71,13 +72,13 @@ module _ (text tables own : List ℕ) (frame : Frame) where
   target_turn (d ∷ m ∷ n ∷ ns) ws = rw (and_false (is_name m) refl, and_false (is_name d) refl)
 
   assign_turn_law : (how : Change) (ws : List (List ℕ))
-      → formed (assign_action how ws) ≡ cond (is_name (first ws)) (whole_turn (assign_turn text tables frame.class frame.base how (first ws)) (expression (others ws))) misfit
+      → formed (assign_action how ws) ≡ cond (is_name (first ws)) (whole_turn (assign_turn frame.scope.text.now frame.scope.tables.now frame.scope.class frame.base how (first ws)) (expression (others ws))) misfit
   unfolding assign_turn action_turn is_name
   assign_turn_law how [] = refl
   assign_turn_law how (f ∷ ws) = whole_turn_law (is_name f) (assign how f) _ (expression ws) (λ e. refl)
 
   action_turn_law : (k : Keyword) (ws : List (List ℕ))
-      → formed (action_of k ws) ≡ cond (is_begun k ws) (whole_turn (acted_turn text tables frame k (first ws)) (expression (skipped k ws))) misfit
+      → formed (action_of k ws) ≡ cond (is_begun k ws) (whole_turn (acted_turn frame k (first ws)) (expression (skipped k ws))) misfit
   unfolding action_of action_turn is_name same is_target
   action_turn_law set_word ws = assign_turn_law replace ws
   action_turn_law add_word ws = assign_turn_law increase ws
@@ -172,21 +173,21 @@ module _ (text tables own : List ℕ) (frame : Frame) where
   -- ---- by what the evaluator answered in a line s
 
   module _ (s : List ℕ) where
-    whole_found : (turn : ℕ → Turn) (p : Parsed) (v m : ℕ) → Left s m p → Found v m ≡ valued_in text tables own frame s p
-        → cond (leb (length s) m) (turn v) misfit ≡ whole_turn turn p
-    whole_found turn unread v m l q = absurd l
-    whole_found turn (parsed e ws) v m l q = rw ((found_value (value e) (length s - span ws) v m q).0, l.1, empty_after 32 s m)
+    whole_found : (turn : ℕ → Turn) (p : Parsed) (v : Value) → Left s v.end p → Some v ≡ valued_in frame s p
+        → cond (leb (length s) v.end) (turn v.number) misfit ≡ whole_turn turn p
+    whole_found turn unread v l q = absurd l
+    whole_found turn (parsed e ws) v l q = rw ((found_value (value e) (length s - span ws) v q).0, l.1, empty_after 32 s v.end)
 
-    whole_none : (turn : ℕ → Turn) (p : Parsed) → Nothing ≡ valued_in text tables own frame s p → misfit ≡ whole_turn turn p
+    whole_none : (turn : ℕ → Turn) (p : Parsed) → None ≡ valued_in frame s p → misfit ≡ whole_turn turn p
     whole_none turn (parsed e ws) q = rw (not_found (value e) (length s - span ws) q) (either_misfit (is_empty ws))
     whole_none turn unread q = refl
 
-    guard_found : (p : Parsed) (v m : ℕ) → Left s m p → Found v m ≡ valued_in text tables own frame s p
-        → guarded (some v) (action_of (keyword_of (first (words_after (drop m s)))) (others (words_after (drop m s)))) ≡ turn_of (when_form p)
-    guard_found unread v m l q = absurd l
-    guard_found (parsed e ws) v m l q = rw (← l.1) (sym (when_turn e ws ∙ rw (found_value (value e) (length s - span ws) v m q).0))
+    guard_found : (p : Parsed) (v : Value) → Left s v.end p → Some v ≡ valued_in frame s p
+        → guarded (some v.number) (action_of (keyword_of (first (words_after (drop v.end s)))) (others (words_after (drop v.end s)))) ≡ turn_of (when_form p)
+    guard_found unread v l q = absurd l
+    guard_found (parsed e ws) v l q = rw (← l.1) (sym (when_turn e ws ∙ rw (found_value (value e) (length s - span ws) v q).0))
 
-    guard_unread : (p : Parsed) → Nothing ≡ valued_in text tables own frame s p → misfit ≡ turn_of (when_form p)
+    guard_unread : (p : Parsed) → None ≡ valued_in frame s p → misfit ≡ turn_of (when_form p)
     guard_unread (parsed e ws) q = sym (when_turn e ws ∙ rw (not_found (value e) (length s - span ws) q))
     guard_unread unread q = refl
 
@@ -195,38 +196,38 @@ module _ (text tables own : List ℕ) (frame : Frame) where
       abbrev read : Parsed
       read = expression (words_after (drop i s))
 
-      left_there : (v m : ℕ) → Found v m ≡ valued_in text tables own frame s read → Left s m read
-      left_there v m q =
-          left_behind s read m (tail_after s 9 i) (value_placed value s read v m q)
+      left_there : (v : Value) → Some v ≡ valued_in frame s read → Left s v.end read
+      left_there v q =
+          left_behind s read v.end (tail_after s 9 i) (value_placed value s read v q)
 
       -- It is the expression of an action: the words ws follow the keyword k.
       module _ (k : Keyword) (ws : List (List ℕ)) (b : is_begun k ws ≡ true) (h : words_after (drop i s) ≡ skipped k ws) where
-        begun_turn : formed (action_of k ws) ≡ whole_turn (acted_turn text tables frame k (first ws)) read
+        begun_turn : formed (action_of k ws) ≡ whole_turn (acted_turn frame k (first ws)) read
         begun_turn = action_turn_law k ws ∙ rw (b, h)
 
-        pub words_none : Nothing ≡ valued_in text tables own frame s read → misfit ≡ formed (action_of k ws)
+        pub words_none : None ≡ valued_in frame s read → misfit ≡ formed (action_of k ws)
         words_none q = whole_none _ read q ∙ sym begun_turn
 
-        -- Its value is v, and it ends at m.
-        module _ (v m : ℕ) (q : Found v m ≡ valued_in text tables own frame s read) where
-          found_turn : cond (leb (length s) m) (acted_turn text tables frame k (first ws) v) misfit ≡ formed (action_of k ws)
-          found_turn = whole_found _ read v m (left_there v m q) q ∙ sym begun_turn
+        -- It has the value v.
+        module _ (v : Value) (q : Some v ≡ valued_in frame s read) where
+          found_turn : cond (leb (length s) v.end) (acted_turn frame k (first ws) v.number) misfit ≡ formed (action_of k ws)
+          found_turn = whole_found _ read v (left_there v q) q ∙ sym begun_turn
 
-          pub words_more : m < length s → misfit ≡ formed (action_of k ws)
-          words_more l = rw (← found_turn, lt-leb (length s) m l)
+          pub words_more : v.end < length s → misfit ≡ formed (action_of k ws)
+          words_more l = rw (← found_turn, lt-leb (length s) v.end l)
 
-          pub words_found : length s ≤ m → (w : List ℕ) → w ≡ first ws → acted_turn text tables frame k w v ≡ formed (action_of k ws)
-          words_found l w e = rw (e, ← found_turn, le-leb (length s) m l)
+          pub words_found : length s ≤ v.end → (w : List ℕ) → w ≡ first ws → acted_turn frame k w v.number ≡ formed (action_of k ws)
+          words_found l w e = rw (e, ← found_turn, le-leb (length s) v.end l)
 
       -- It is the guard after a `when`.
-      pub guard_none : Nothing ≡ valued_in text tables own frame s read → misfit ≡ turn_of (when_form read)
+      pub guard_none : None ≡ valued_in frame s read → misfit ≡ turn_of (when_form read)
       guard_none q = guard_unread read q
 
-      -- Its value is v, and its end m is followed by a word of the keyword k and the words ws.
-      module _ (v m : ℕ) (q : Found v m ≡ valued_in text tables own frame s read)
-          (k : Keyword) (e : k ≡ keyword_of (first (words_after (drop m s)))) (ws : List (List ℕ)) (r : ws ≡ others (words_after (drop m s))) where
-        pub guard_there : {b : Bool} → eqb v 0 ≡ b → cond b (skipped_turn (action_of k ws)) (formed (action_of k ws)) ≡ turn_of (when_form read)
-        guard_there h = rw (← h, e, r) (guard_found read v m (left_there v m q) q)
+      -- It has the value v, and its end is followed by a word of the keyword k and the words ws.
+      module _ (v : Value) (q : Some v ≡ valued_in frame s read)
+          (k : Keyword) (e : k ≡ keyword_of (first (words_after (drop v.end s)))) (ws : List (List ℕ)) (r : ws ≡ others (words_after (drop v.end s))) where
+        pub guard_there : {b : Bool} → eqb v.number 0 ≡ b → cond b (skipped_turn (action_of k ws)) (formed (action_of k ws)) ≡ turn_of (when_form read)
+        guard_there h = rw (← h, e, r) (guard_found read v (left_there v q) q)
 
 -- ---- the statement s on object o, at the place in the word w; there are n classes
 
@@ -238,7 +239,7 @@ module _ (text tables values : List ℕ) (o depth s arg got c base size n w : �
   line_misfit h = rw (← p, ← q, ← r, ← u, ← v, h)
 
   pub line_fits : (leb n c || ltb (length values) (base + size) || ltb (length text) (w / 65536 + w % 65536)) ≡ false → (l : List ℕ) → l ≡ part_of text w
-      → form_turn (form_of (words l)) (turn_in text tables (take (base + size - base) (drop base values)) (record { class = c; base = base; depth = depth; arg = arg; got = got }))
+      → form_turn (form_of (words l)) (statement_turn text tables c base depth (value_in text tables c (take (base + size - base) (drop base values)) arg got))
       ≡ line_turn text tables values o depth s arg got
   unfolding line_turn
   line_fits h l e = let d : base + size - base ≡ size = omega arith in rw (← p, ← q, ← r, ← u, ← v, h, e, d)

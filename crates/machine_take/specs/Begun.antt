@@ -1,6 +1,6 @@
 -- Where a send's message starts, in the rules' terms.
-use Rattle.std.specs.Prelude.{ℕ, ◌≤◌, ◌<◌, ◌≡◌, refl, Bool, true, false, ◌&&◌, List, ltb}
-use Rattle.std.proofs.Common.{ap, ◌∙◌}
+use Rattle.std.specs.Prelude.{ℕ, ◌≤◌, ◌<◌, ◌≡◌, refl, Bool, true, false, ◌&&◌, List, ltb, Some, None}
+use Rattle.std.proofs.Common.{ap, ◌∙◌, arith}
 use Rattle.std.proofs.Math.Option.{Option, none, some}
 use borrow.Author.Tests.{lt-ltb, le-ltb}
 use Rattle.layout.specs.Layout.{object_class_at}
@@ -9,13 +9,16 @@ use Rattle.catalog.specs.View.{object_word, class_count, object_count, member_co
 use Rattle.catalog.specs.Bodies.{body_at, bounds_of}
 use Rattle.machine_words.specs.Turn.{target_there, object_from}
 use Rattle.machine_words.specs.Request.{Wanted, is_sendable, First, on, past, nowhere, first_on, first_of}
-use Rattle.catalog.specs.declared.body.Body.{Body}
-use Rattle.catalog.specs.declared.body.Body.TheVariants.{Found, Missing}
+use Rattle.machine_words.specs.declared.Start.{Start}
+use Rattle.machine_words.specs.declared.Start.TheVariants.{On, Past}
+use Rattle.machine_words.specs.Said.{said_first}
+use Rattle.catalog.specs.declared.body.Statements.{Statements}
+use Rattle.std.specs.Prelude as rust
 
 -- The start on an object, by the answer for its body.
-abbrev pub start_by : ℕ → Body → First
-start_by o (Found first end) = on o first end
-start_by o Missing = nowhere
+abbrev pub start_by : ℕ → rust.Option Statements → First
+start_by o (Some s) = on o s.first s.end
+start_by o None = nowhere
 
 start_by_law : (o : ℕ) (m : Option Member) → start_by o (bounds_of m) ≡ first_on o m
 start_by_law o none = refl
@@ -38,8 +41,13 @@ module _ (text tables : List ℕ) (q : Wanted) (b : Bool) (s : b ≡ is_sendable
   unfolding first_of
   first_past h = rw (← s, t, ← e, ← m, le-ltb o n h)
 
-  pub first_on_law : o < n → (c : ℕ) → c ≡ object_word tables o object_class_at → (b : Body) → b ≡ bounds_of (body_at text tables c q.place q.name)
+  pub first_on_law : o < n → (c : ℕ) → c ≡ object_word tables o object_class_at → (b : rust.Option Statements) → b ≡ bounds_of (body_at text tables c q.place q.name)
       → start_by o b ≡ first_of text tables q
   unfolding first_of
   first_on_law h c k b p =
       rw (← s, t, ← e, ← m, lt-ltb o n h, ← k) (ap (start_by o) p ∙ start_by_law o (body_at text tables c q.place q.name))
+
+-- A message that starts on an object or past the last one does not start nowhere.
+pub somewhere : (s : Start) → said_first (Some s) ≡ nowhere → ⊥
+somewhere (On o first end) e = let z : ◌≡◌ {A = ℕ} 0 1 = cc in omega arith
+somewhere (Past o) e = let z : ◌≡◌ {A = ℕ} 0 1 = cc in omega arith

@@ -17,7 +17,7 @@ use Rattle.machine_words.specs.Request.{Wanted, domain_lock, locked, concerns, w
 use Rattle.machine_words.specs.Line.{tables_of, row_start, row_of, with_row}
 use Rattle.machine_words.specs.Spans.{take_sets, span_length, sets_own, lent_sets, sets_same, sets_sets}
 use Rattle.machine_take.specs.Locking.{domain_bit, locked_target, domain_lock_law, domain_free, locked_object, locked_class}
-use Rattle.machine_checks.specs.Lent.{Within, Span, part, part_is, lent, lent_is}
+use Rattle.machine_checks.specs.Lent.{Within, Span, part, lent_at, part_at}
 
 -- ---- the locks of a domain, class by class
 
@@ -82,9 +82,9 @@ entered_length q nowhere row = unfold entered in refl
 -- ---- over the state
 
 -- The message, written into the lent row.
-pub entered_lent : (ws : List ℕ) (s : ℕ) → Within ws s → (q : Wanted) (f : First) (row : List ℕ) → length row ≡ row_words → row ≡ entered q f (part ws s)
-    → lent ws s row ≡ with_row ws s (entered q f (row_of ws s))
-entered_lent ws s h q f row long r = lent_is ws s h row (entered q f (row_of ws s)) long (r ∙ ap (entered q f) (part_is ws s))
+pub entered_lent : (ws : List ℕ) (s : ℕ) → Within ws s → (a e : ℕ) → a ≡ row_start s → e ≡ row_start s + row_words → (q : Wanted) (f : First) (row : List ℕ)
+    → length row ≡ row_words → row ≡ entered q f (take (e - a) (drop a ws)) → take a ws ++ (row ++ drop (e - a) (drop a ws)) ≡ with_row ws s (entered q f (row_of ws s))
+entered_lent ws s h a e b c q f row long r = lent_at ws s h a e b c row (entered q f (row_of ws s)) long (r ∙ ap (entered q f) (part_at ws s a e b c))
 
 -- A part of the state written again: what it holds then is made from what was written before.
 pub written_again : (ws : List ℕ) (at size : ℕ) → at + size ≤ length ws → (f : List ℕ → List ℕ) → ((l : List ℕ) → length (f l) ≡ length l)

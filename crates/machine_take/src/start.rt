@@ -5,8 +5,8 @@ ghost use Rattle.machine_words.specs.Calls.{row_of, with_row};
 ghost use Rattle.machine_words.specs.Said.{asked, said_first};
 ghost use Rattle.machine_checks.specs.Lent.{Within};
 
-use catalog::body::Body;
-use machine_words::{First, Wanted};
+use machine_checks::row_range;
+use machine_words::{Start, Wanted};
 
 // Whether the target exists, and its class has the method.
 fn is_sendable(tables: &[u32], wanted: Wanted) -> bool
@@ -17,23 +17,20 @@ fn is_sendable(tables: &[u32], wanted: Wanted) -> bool
         & (wanted.place < catalog::member_count(tables, wanted.class, layout::METHODS))
 }
 
-// Where the send's message starts.
-pub fn first_object(text: &[u8], tables: &[u32], wanted: Wanted) -> First
+// Where the send's message starts; nowhere where its first object has no such method.
+pub fn first_object(text: &[u8], tables: &[u32], wanted: Wanted) -> Option<Start>
     ensures { said_first result ≡ first_of text.now tables.now (asked wanted) }
 {
     if !is_sendable(tables, wanted) {
-        return First::Nowhere;
+        return None;
     }
     let object = machine_targets::visit::object_from(tables, wanted.kind, wanted.number, 0);
     if catalog::object_count(tables) <= object {
-        return First::Past(object);
+        return Some(Start::Past(object));
     }
     let class = catalog::class_of(tables, object);
-    let body = catalog::body::body_at(text, tables, class, wanted.place, wanted.name);
-    match body {
-        Body::Found(first, end) => First::On(object, first, end),
-        Body::Missing => First::Nowhere,
-    }
+    let body = catalog::body::body_at(text, tables, class, wanted.place, wanted.name)?;
+    Some(Start::On(object, body.first, body.end))
 }
 
 // Writes the send's target, name and argument into the row, which then runs a message.
@@ -58,28 +55,25 @@ fn enter_past(row: &mut [u32], object: u32)
 }
 
 // Puts the message at its start; does nothing where that is nowhere.
-pub fn enter(row: &mut [u32], wanted: Wanted, first: First)
+pub fn enter(row: &mut [u32], wanted: Wanted, first: Option<Start>)
     ensures { row.new ≡ entered (asked wanted) (said_first first) row.old }
 {
-    match first {
-        First::On(object, start, end) => {
-            name_message(row, wanted);
+    let Some(at) = first else {
+        return;
+    };
+    name_message(row, wanted);
+    match at {
+        Start::On(object, start, end) => {
             machine_words::enter_object(row, object, start, end, 0);
         }
-        First::Past(object) => {
-            name_message(row, wanted);
-            enter_past(row, object);
-        }
-        First::Nowhere => {}
+        Start::Past(object) => enter_past(row, object),
     }
 }
 
 // Puts the send's message at its start, in its slot's row.
-pub fn start_message(state: &mut [u32], slot: u32, wanted: Wanted, first: First)
+pub fn start_message(state: &mut [u32], slot: u32, wanted: Wanted, first: Option<Start>)
     requires { Within state.old slot }
     ensures { state.new ≡ with_row state.old slot (entered (asked wanted) (said_first first) (row_of state.old slot)) }
 {
-    let start = layout::TABLE_WORDS + slot as usize * layout::ROW_WORDS;
-    let end = start + layout::ROW_WORDS;
-    enter(&mut state[start..end], wanted, first);
+    enter(&mut state[row_range(slot)], wanted, first);
 }

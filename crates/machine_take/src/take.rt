@@ -10,6 +10,7 @@ ghost use Rattle.machine_words.specs.Line.{tables_of};
 ghost use Rattle.machine_checks.specs.Lent.{Span};
 ghost use Rattle.machine_take.specs.Taken.{locked_below};
 
+use machine_checks::tables_of;
 use machine_conflicts::clash::domain_place;
 use machine_words::Wanted;
 
@@ -24,8 +25,10 @@ pub fn place_bit(place: u32) -> u32
 fn domain_bit(text: &[u8], tables: &[u32], wanted: Wanted, class: u32) -> u32
     ensures { result ≡ domain_bit text.now tables.now (asked wanted) class }
 {
-    let place = domain_place(text, tables, wanted, class);
-    place_bit(place)
+    match domain_place(text, tables, wanted, class) {
+        Some(place) => place_bit(place),
+        None => 0,
+    }
 }
 
 // Adds lock bits to a word of the row, and marks the word as one with locks.
@@ -60,7 +63,7 @@ fn lock_class(text: &[u8], state: &mut [u32], start: usize, size: usize, wanted:
     requires { Span state.old start size }
     ensures { state.new ≡ sets state.old start (domain_lock text.now (tables_of state.old) (asked wanted) (take size (drop start state.old)) class) }
 {
-    let bits = domain_bit(text, &state[0..layout::TABLE_WORDS], wanted, class);
+    let bits = domain_bit(text, tables_of(state), wanted, class);
     if bits == 0 {
         return;
     }
@@ -78,15 +81,14 @@ fn lock_domain(text: &[u8], state: &mut [u32], start: usize, size: usize, wanted
     ensures { state.new ≡ sets state.old start (locked_below text.now (tables_of state.old) (asked wanted)
         (take size (drop start state.old)) (class_count (tables_of state.old))) }
 {
-    let count = catalog::class_count(&state[0..layout::TABLE_WORDS]);
-    let mut class = 0;
-    while class < count {
+    let count = catalog::class_count(tables_of(state));
+    for class in 0..count {
         lock_class(text, state, start, size, wanted, class);
-        class += 1;
     }
 }
 
-// Takes the locks of a send, in a row or in the words of a waiting send: the part of the state that starts there.
+// Takes the locks of a send, in a row or in the words of a waiting send: the part of the state that starts there. The part goes by its
+// place, since the tables are read from the same state.
 pub fn lock(text: &[u8], state: &mut [u32], start: usize, size: usize, wanted: Wanted)
     requires { Span state.old start size × (wanted.place < 32) }
     ensures { state.new ≡ sets state.old start (locked text.now (tables_of state.old) (asked wanted) (take size (drop start state.old))) }

@@ -8,6 +8,7 @@ ghost use Rattle.machine_checks.specs.Lent.{Within};
 
 use super::start::name_message;
 use super::take::lock;
+use machine_checks::row_range;
 use machine_words::Wanted;
 
 // Clears the words of a row's waiting send.
@@ -16,11 +17,7 @@ fn clear_waiting(row: &mut [u32])
     ensures { row.new ≡ sets row.old waiting_at (replicate waiting_words 0) }
 {
     let end = layout::WAITING_AT + layout::WAITING_WORDS;
-    let mut place = layout::WAITING_AT;
-    while place < end {
-        row[place] = 0;
-        place += 1;
-    }
+    row[layout::WAITING_AT..end].fill(0);
 }
 
 // Withdraws a row's waiting send: its slot is then open, and no message runs.
@@ -45,14 +42,13 @@ fn hold_back(text: &[u8], state: &mut [u32], slot: u32, wanted: Wanted)
     requires { Within state.old slot × (wanted.place < 32) }
     ensures { state.new ≡ with_row state.old slot (waiting_row text.now (tables_of state.old) (asked wanted) (row_of state.old slot)) }
 {
-    let start = layout::TABLE_WORDS + slot as usize * layout::ROW_WORDS;
-    let end = start + layout::ROW_WORDS;
-    clear_waiting(&mut state[start..end]);
-    let waiting = start + layout::WAITING_AT;
+    let row = row_range(slot);
+    let waiting = row.start + layout::WAITING_AT;
+    clear_waiting(&mut state[row.start..row.end]);
     let past = waiting + layout::WAITING_WORDS;
     write_request(&mut state[waiting..past], wanted);
     lock(text, state, waiting, layout::WAITING_WORDS, wanted);
-    memory::put(state, start, layout::WAITING);
+    memory::put(state, row.start, layout::WAITING);
 }
 
 // Puts the slot at the end of the line, with its send.

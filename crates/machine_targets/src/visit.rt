@@ -34,13 +34,11 @@ fn in_target(tables: &[u32], kind: u32, number: u32, object: u32) -> bool
 fn one_from(number: u32, from: u32, end: u32) -> u32
     ensures { result ≡ first_from (λ o. eqb o number) from (end - from) }
 {
-    if end <= from {
-        return from;
+    if from <= number && number < end {
+        number
+    } else {
+        end.max(from)
     }
-    if number < from {
-        return end;
-    }
-    if number < end { number } else { end }
 }
 
 // The first object to visit from a number on, testing each.
@@ -48,14 +46,12 @@ fn object_among(tables: &[u32], kind: u32, number: u32, from: u32) -> u32
     ensures { result ≡ object_from tables.now kind number from }
 {
     let count = catalog::object_count(tables);
-    let mut object = from;
-    while object < count {
+    for object in from..count {
         if in_target(tables, kind, number, object) {
             return object;
         }
-        object += 1;
     }
-    object
+    count.max(from)
 }
 
 // The first object to visit from a number on; where there is none, the number of objects, or `from` where that is greater. A

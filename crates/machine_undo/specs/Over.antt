@@ -137,8 +137,3 @@ pub zeros_at : (n k : ℕ) → ◌≡◌ {A = ℕ} (slice_index (replicate n 0) 
 zeros_at zero k = refl
 zeros_at (suc n) zero = refl
 zeros_at (suc n) (suc k) = zeros_at n k
-
-pub zeros_of : (n m : ℕ) → n ≤ m → take n (replicate {A = ℕ} m 0) ≡ replicate n 0
-zeros_of zero m h = refl
-zeros_of (suc n) zero h = absurd (omega arith)
-zeros_of (suc n) (suc m) h = ap (λ (l : List ℕ). 0 ∷ l) (zeros_of n m (le_of_suc-le-suc h))

@@ -1,13 +1,17 @@
 -- The words where locks were taken, cleared eight by eight: the row's lock marks have a bit for each eight.
-use Rattle.std.specs.Prelude.{◌≡◌, ℕ, ◌+◌, ◌-◌, ◌*◌, ◌/◌, ◌^◌, ◌<◌, ◌≤◌, Bool, true, false, cond, not, ◌&&◌, ◌||◌, List, length, ◌==◌, nat_eq, slice_index, refl}
+use Rattle.std.specs.Prelude.{◌≡◌, ℕ, ◌+◌, ◌-◌, ◌*◌, ◌/◌, ◌^◌, ◌<◌, ◌≤◌, Bool, true, false, cond, not, ◌&&◌, ◌||◌, List, length, replicate, ◌==◌, nat_eq, slice_index, refl}
 use Rattle.std.proofs.Common.{arith, sym, ◌∙◌, true≢false, ext_get_or, eq-eqb, ne_eqb}
-use Rattle.std.proofs.Math.Decide.{ℕ_discrete}
+use Rattle.std.proofs.Math.Decide.{ℕ_discrete, dec_le, dec_lt}
 use Rattle.std.proofs.Math.Path.{ap, fun_ext}
 use Rattle.layout.specs.Layout.{lock_marks_at, row_words}
 use Rattle.laws.specs.Bits.{bit, bit_zero, less_here, less_else}
 use Rattle.machine_words.specs.Row.{zeroed, unlocked}
 use Rattle.machine_words.specs.Cleared.{zeroed_length, zeroed_at}
-use Rattle.machine_undo.specs.Over.{over, over_skip, over_all}
+use Rattle.machine_words.specs.Spans.{sets_else, sets_there}
+use Rattle.std.proofs.lemmas.List.Edits.{sets}
+use Rattle.std.proofs.Math.Seq.{length-sets}
+use lib.ListN.{length-replicate}
+use Rattle.machine_undo.specs.Over.{zeros_at}
 
 -- ---- cleared words
 
@@ -52,19 +56,29 @@ module _ (row : List ℕ) (size : length row ≡ row_words) (b : ℕ) (few : b <
       zeroed_at (λ i. nat_eq (i / 8) b) row i (omega arith)
       ∙ ap (λ (t : Bool). cond t 0 (slice_index row i)) (ne_eqb (i / 8) b (λ e. out (omega arith) (omega arith)))
 
-  -- The words before the eight, and those after them, stay.
-  pub without_begun : row ≡ over (b * 8) without row
-  without_begun =
-      let z : 0 + b * 8 ≡ b * 8 = omega arith in
-      over_skip 0 (b * 8) without row without_length (omega arith) (λ j g h. without_else j (omega arith) (λ x y. omega arith))
-      ∙ ap (λ (k : ℕ). over k without row) z
+  -- Eight zeros in their place.
+  pub eight_cleared : sets row (b * 8) (replicate 8 0) ≡ without
+  eight_cleared =
+      ext_get_or 0 (sets row at zeros) without (length-sets row at zeros ∙ sym without_length)
+      (λ i h. go i (omega (arith, length-sets row at zeros)) (dec_le at i) (dec_lt i (at + 8)))
+    where
+      at : ℕ
+      at = b * 8
 
-  pub without_done : (i : ℕ) → i ≡ b * 8 + 8 → over i without row ≡ without
-  without_done i e =
-      let n = row_words - i in
-      let all : i + n ≡ length row = omega arith in
-      over_skip i n without row without_length (omega arith) (λ j g h. without_else j (omega arith) (λ x y. omega arith))
-      ∙ ap (λ (k : ℕ). over k without row) all ∙ over_all without row without_length
+      zeros : List ℕ
+      zeros = replicate 8 0
+
+      eight : length zeros ≡ 8
+      eight = length-replicate {A = ℕ} 8 0
+
+      go : (i : ℕ) → i < row_words → Dec (at ≤ i) → Dec (i < at + 8) → slice_index (sets row at zeros) i ≡ slice_index without i
+      go i h (no x) y = sets_else zeros row at i (λ g l. x g) ∙ sym (without_else i h (λ g l. x g))
+      go i h (yes x) (no y) = sets_else zeros row at i (λ g l. y (omega (arith, eight))) ∙ sym (without_else i h (λ g l. y l))
+      go i h (yes x) (yes y) =
+          let e : at + (i - at) ≡ i = omega arith in
+          ap (λ (m : ℕ). slice_index (sets row at zeros) m) (sym e)
+          ∙ sets_there zeros row at (i - at) (omega (arith, eight)) (omega (arith, eight))
+          ∙ zeros_at 8 (i - at) ∙ sym (without_here i x y)
 
 -- ---- all that the marks name
 

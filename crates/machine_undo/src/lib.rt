@@ -25,7 +25,7 @@ fn restored(row: &[u32], place: usize, value: u32) -> u32
         if (sets >> (place % 32)) % 2 == 1 {
             return note;
         }
-        return std::num::wrapping_sub_u32(value, note);
+        return value.wrapping_sub(note);
     }
     value
 }
@@ -35,10 +35,8 @@ fn put_back(row: &[u32], values: &mut [u32])
     requires { length row.now ≡ row_words }
     ensures { values.new ≡ put_back (note_at row.now) values.old }
 {
-    let mut i = 0;
-    while i < values.len() {
-        values[i] = restored(row, i, values[i]);
-        i += 1;
+    for (i, value) in values.iter_mut().enumerate() {
+        *value = restored(row, i, *value);
     }
 }
 
@@ -58,8 +56,8 @@ fn note_word(change: Change, sum: u32, old: u32, value: u32) -> u32
     ensures { result ≡ note_word (said_change change) sum old value }
 {
     match change {
-        Change::Replace => std::num::wrapping_sub_u32(old, sum),
-        Change::Increase => std::num::wrapping_add_u32(sum, value),
+        Change::Replace => old.wrapping_sub(sum),
+        Change::Increase => sum.wrapping_add(value),
     }
 }
 
@@ -104,7 +102,7 @@ fn clear_marked(row: &mut [u32], first: usize, marks: u32)
 {
     let mut left = marks;
     while left != 0 {
-        let mark = u32::trailing_zeros(left);
+        let mark = left.trailing_zeros();
         row[first + mark as usize] = 0;
         left = left - (1u32 << mark);
     }

@@ -9,11 +9,7 @@ fn clear_first(row: &mut [u32], count: usize)
     requires { (length row.old ≡ row_words) × (count ≤ row_words) }
     ensures { row.new ≡ replicate count 0 ++ drop count row.old }
 {
-    let mut i = 0;
-    while i < count {
-        row[i] = 0;
-        i += 1;
-    }
+    row[0..count].fill(0);
 }
 
 // Clears eight words.
@@ -21,12 +17,9 @@ fn clear_eight(row: &mut [u32], eight: u32)
     requires { (length row.old ≡ row_words) × (eight < 32) }
     ensures { row.new ≡ zeroed (λ i. nat_eq (i / 8) eight) row.old }
 {
-    let mut place = eight as usize * 8;
-    let end = place + 8;
-    while place < end {
-        row[place] = 0;
-        place += 1;
-    }
+    let start = eight as usize * 8;
+    let end = start + 8;
+    row[start..end].fill(0);
 }
 
 // Clears the words where locks were taken: a mark for each eight of them.
@@ -36,7 +29,7 @@ fn clear_locks(row: &mut [u32])
 {
     let mut left = memory::get(row, layout::LOCK_MARKS_AT);
     while left != 0 {
-        let eight = u32::trailing_zeros(left);
+        let eight = left.trailing_zeros();
         clear_eight(row, eight);
         left = left - (1u32 << eight);
     }

@@ -15,7 +15,6 @@ pub enum Change {
 // The next step of a running message: see `Turn` in specs/Row.antt.
 #[derive(Clone, Copy)]
 pub enum Turn {
-    Misfit,
     Stop,
     Skip,
     Assign(Change, usize, u32),
@@ -34,7 +33,8 @@ pub enum Target {
     Domain(u32),
 }
 
-// A send, as the lock rules see it: see `Wanted` in specs/Request.antt.
+// A send, as the lock rules see it: see `Wanted` in specs/Request.antt. Its kind and number are words of the state, where they may be
+// any (`wanted_in`), so that a `Target` cannot stand for them.
 #[derive(Clone, Copy)]
 pub struct Wanted {
     pub kind: u32,
@@ -45,23 +45,21 @@ pub struct Wanted {
     pub argument: u32,
 }
 
-// Where a message starts: on an object, with its method's first statement there and the one past its last; past the last
-// object; or nowhere, where its first object has no such method.
+// Where a message starts: on an object, with its method's first statement there and the one past its last; or past the last
+// object.
 #[derive(Clone, Copy)]
-pub enum First {
+pub enum Start {
     On(u32, u32, u32),
     Past(u32),
-    Nowhere,
 }
 
-// What a call answers: done (a send: granted), going or the message's answer; a number 21 to 37, or 42; 40 with the
-// lowest clashing slot; 41.
+// What a call answers that is not refused: done (a send: granted), going or the message's answer; 40 with the lowest clashing
+// slot; 41.
 #[derive(Clone, Copy)]
 pub enum Outcome {
     Done,
     Going,
     Answer(u32),
-    Refused(u32),
     Held(u32),
     Stopped,
 }

@@ -1,4 +1,5 @@
 // Writes bytes into a lent list from a place on. Each function answers the place after what it wrote.
+// The list and the place are two parameters: C lends the list, and `Appended` and `Printed` speak of each by itself.
 #![tactic(auto)]
 
 ghost use Rattle.std.specs.Prelude.{◌+◌, ◌<◌, ◌^◌, [], ◌∷◌, ◌++◌, length};
@@ -22,10 +23,8 @@ pub fn put_u32(out: &mut [u8], at: usize, number: u32) -> usize
     requires { at + 4 < 2 ^ 64 }
     ensures { Appended (u32_bytes number) out.old at result out.new }
 {
-    let at = put_byte(out, at, (number % 256) as u8);
-    let at = put_byte(out, at, (number / 256 % 256) as u8);
-    let at = put_byte(out, at, (number / 65536 % 256) as u8);
-    put_byte(out, at, (number / 16777216 % 256) as u8)
+    let bytes = number.to_le_bytes();
+    put_bytes(out, at, &bytes)
 }
 
 // Writes two of them.
@@ -43,15 +42,13 @@ pub fn put_bytes(out: &mut [u8], at: usize, bytes: &[u8]) -> usize
     ensures { Appended bytes.now out.old at result out.new }
 {
     let mut end = at;
-    let mut i = 0;
-    while i < bytes.len() {
-        end = put_byte(out, end, bytes[i]);
-        i += 1;
+    for byte in bytes {
+        end = put_byte(out, end, *byte);
     }
     end
 }
 
-// Writes a number in decimal digits, of which there are at most `most`.
+// Writes a number in decimal digits, of which there are at most `most`: by hand, since `format!` takes memory from an allocator.
 pub fn put_digits(out: &mut [u8], at: usize, most: u32, number: u32) -> usize
     requires { at + most < 2 ^ 64 }
     ensures { Appended (digits most number) out.old at result out.new }

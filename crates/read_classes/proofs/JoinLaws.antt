@@ -18,16 +18,6 @@ use Rattle.catalog.specs.Frames.{Kept, around_library}
 use Rattle.catalog.specs.Look.{part, shown_count, shown_members}
 use Rattle.read_classes.specs.Joins.{Making, Joined, MemberJoined, ClassJoined, inherited_behind, joined_more, joined_grows, behind_grows, joined_from, joined_over, joined_done}
 
--- A class being made stays so.
-pub making_kept : {ws : List ℕ} {c p : ℕ} {ws' : List ℕ} → Making ws c p → Kept ws c p ws' → Making ws' c p
-making_kept {ws} {c} {p} {ws'} m k =
-    let z = k.around.low 0 (omega arith) (omega arith) in
-    let r = m.room in
-    record {
-      room = record { class = r.class; kind = r.kind; words = k.around.size ∙ r.words };
-      uncounted = omega (arith, m.uncounted);
-    }
-
 -- Joining more members does not shorten the row.
 joined_mono : (ms : List Member) (f : ℕ → Member) (j n : ℕ) → j ≤ n → length (joined ms (upto f j)) ≤ length (joined ms (upto f n))
 joined_mono ms f j zero h = let e : j ≡ zero = omega arith in rw e (omega arith)

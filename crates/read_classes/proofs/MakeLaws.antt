@@ -91,9 +91,6 @@ module _ (text ws₀ : List ℕ) (c word mask : ℕ) (f : Free ws₀) (u : c ≡
   same_library : (ws : List ℕ) → Around ws₀ c ws → library_of text ws ≡ l
   same_library ws k = around_library text k (sym u) (omega (arith, f.classes))
 
-  pub making_fields : Making ws₁ c 0
-  making_fields = making ws₁ 0 (omega arith) start.around
-
   fields_row : inherited_behind 0 (library_of text ws₁) (members_of text ws₁ c 0) ps ≡ inherited (λ k. k.fields) l ps
   unfolding inherited_behind inherited
   fields_row = ap₂ (λ (k : Library) (ms : List Member). inherited_behind 0 k ms ps) (same_library ws₁ start.around) (no_members text ws₁ c 0 start.fields)
@@ -106,9 +103,6 @@ module _ (text ws₀ : List ℕ) (c word mask : ℕ) (f : Free ws₀) (u : c ≡
   module _ (over₀ : Bool) (ws₂ : List ℕ) (t₀ : ParentsJoined text ws₁ c 0 ps over₀ ws₂) where
     around₂ : Around ws₀ c ws₂
     around₂ = around_then start.around t₀.kept.around
-
-    pub making_methods : Making ws₂ c 1
-    making_methods = making ws₂ 1 (omega arith) around₂
 
     methods_row : inherited_behind 1 (library_of text ws₂) (members_of text ws₂ c 1) ps ≡ inherited (λ k. k.methods) l ps
     unfolding inherited_behind inherited

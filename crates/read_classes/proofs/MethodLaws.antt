@@ -64,7 +64,7 @@ module _ (m : Member) where
 pub place_of : (ms : List Member) {m n : Name} {place : ℕ} → place ≡ member_place ms m → m ≡ n → place ≡ member_place ms n
 place_of ms h e = h ∙ ap (member_place ms) e
 
-place_within : (ms : List Member) (n : Name) → member_place ms n ≤ length ms
+pub place_within : (ms : List Member) (n : Name) → member_place ms n ≤ length ms
 unfolding member_place
 place_within ms n = first_within (λ (x : Member). same x.name n) ms
 

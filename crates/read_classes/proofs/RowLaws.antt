@@ -5,24 +5,13 @@ use mathlib.Core.Bool.{Bool, true, false, false≢true}
 use mathlib.Core.List.{List, [], ◌∷◌, ◌++◌}
 use native.Mathlib.Omega.{arith}
 use lib.ListN.{length, length-append}
-use lib.Dec.{ltb}
 use borrow.Author.Tests.{lt-ltb, le-ltb}
-use Rattle.model.specs.Word.{Name}
-use Rattle.model.specs.Library.{among, member_place}
+use Rattle.model.specs.Library.{among}
 use Rattle.catalog.specs.View.{name_of, member_count, member_in, members_of}
 use Rattle.catalog.specs.Rows.{with_member, with_count, members_added}
 use Rattle.catalog.specs.Frames.{kept_refl, kept_then, kept_member, kept_count}
-use Rattle.catalog.specs.Look.{member_count_law, among_place}
+use Rattle.catalog.specs.Look.{member_count_law}
 use Rattle.read_classes.specs.Joins.{Room, Appended, MemberJoined, joined_present, joined_new, joined_from, joined_done}
-
-module _ (text ws : List ℕ) (c p w : ℕ) where
-  -- The row has the name exactly if its place there is before the end.
-  pub present : {name : Name} {place count : ℕ} {t : Bool} → name ≡ name_of text w → place ≡ member_place (members_of text ws c p) name → count ≡ member_count ws c p
-      → ltb place count ≡ t → among (members_of text ws c p) (name_of text w) ≡ t
-  present {name} {place} {count} e h k d =
-      among_place (members_of text ws c p) (name_of text w)
-      ∙ (λ i. ltb ((ap (member_place (members_of text ws c p)) (sym e) ∙ sym h) i) ((member_count_law text ws c p ∙ sym k) i))
-      ∙ d
 
 module _ (text ws : List ℕ) (c p w b : ℕ) where
   pub append_full : 32 ≤ member_count ws c p → Appended text ws c p w b true ws

@@ -1,14 +1,13 @@
 -- Classes made or changed in the tables: the results of the functions that the three line functions call.
-use Rattle.std.specs.Prelude.{ℕ, ◌+◌, ◌*◌, ◌/◌, ◌<◌, ◌≡◌, Bool, cond, ◌||◌, List, length, set, ltb}
+use Rattle.std.specs.Prelude.{ℕ, ◌+◌, ◌*◌, ◌/◌, ◌<◌, ◌≤◌, ◌≡◌, cond, ◌||◌, List, length, set, ltb}
 use Rattle.layout.specs.Layout.{class_words, classes_at, table_words}
 use Rattle.model.specs.Word.{Name}
 use Rattle.model.specs.Form.{Line, class_line}
-use Rattle.model.specs.Library.{Class, Library, member_place, written, with_field, with_method, inherited}
-use Rattle.model.specs.Fault.{class_fault, field_fault, writes, method_fault}
-use Rattle.catalog.specs.View.{name_of, class_count, statement_count, member_in, members_of, class_of, library_of}
+use Rattle.model.specs.Library.{Class, Library, member_place, with_field, with_method, inherited}
+use Rattle.model.specs.Fault.{class_fault, field_fault, method_fault}
+use Rattle.catalog.specs.View.{name_of, class_count, statement_count, member_count, members_of, class_of, library_of}
 use Rattle.catalog.specs.Frames.{Around}
 use Rattle.read_classes.specs.Took.{Took}
-use Rattle.read_classes.specs.Joins.{Joined}
 
 -- There is room for one more class.
 pub record Free (ws : List ℕ) : Type 0 where
@@ -49,10 +48,9 @@ module _ (text ws : List ℕ) where
     MethodAdded w r ws' =
         Altered text ws c (with_method (w / 1048576) (name_of text w) (statement_count ws)) (method_fault c (class_of text ws c) (name_of text w)) r ws'
 
-    -- At the place of a method's name: whether the class itself defines the method, and the method put there.
-    abbrev pub Writes : ℕ → Bool → Type 0
-    Writes place r = (n : Name) → place ≡ member_place (members_of text ws c 1) n → r ≡ writes c (class_of text ws c) n
+    -- A method set at the place of its name, or appended where the class has no method of its name.
+    abbrev pub MethodReplaced : ℕ → ℕ → ℕ → List ℕ → Type 0
+    MethodReplaced w place r ws' = place ≡ member_place (members_of text ws c 1) (name_of text w) → MethodAdded w r ws'
 
-    abbrev pub MethodPut : ℕ → ℕ → ℕ → Bool → List ℕ → Type 0
-    MethodPut w b place r ws' =
-        place ≡ member_place (members_of text ws c 1) (name_of text w) → Joined text ws c 1 (written (member_in text w b) (members_of text ws c 1)) r ws'
+    abbrev pub MethodAppended : ℕ → ℕ → List ℕ → Type 0
+    MethodAppended w r ws' = member_count ws c 1 ≤ member_place (members_of text ws c 1) (name_of text w) → MethodAdded w r ws'

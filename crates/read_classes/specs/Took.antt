@@ -1,5 +1,9 @@
 -- The result of a line of the second pass: its fault, or the library with the line added.
-use Rattle.std.specs.Prelude.{ℕ, ◌≤◌, ◌≡◌, List, length}
+use Rattle.std.specs.Prelude.{ℕ, ◌≤◌, ◌≡◌, ◌≢◌, List, length}
+use Rattle.std.proofs.Common.{arith}
+use Rattle.refusals.specs.Numbers.{fault_number}
+use Rattle.refusals.specs.declared.Fault.{Fault}
+use Rattle.refusals.specs.declared.Fault.TheVariants.{TooLong, Misplaced, Repeated, Unknown, FieldsDiffer, NoAncestor, TooMany}
 use Rattle.layout.specs.Layout.{table_words}
 use Rattle.model.specs.Text.{words}
 use Rattle.model.specs.Word.{Name}
@@ -7,6 +11,16 @@ use Rattle.model.specs.Form.{Form, Line, class_line, field_line, method_line, fo
 use Rattle.model.specs.Library.{Library, add, last_number, last_class}
 use Rattle.model.specs.Fault.{class_fault, field_fault, method_fault}
 use Rattle.catalog.specs.View.{library_of}
+
+-- No fault has the number 0.
+pub fault_some : (f : Fault) → fault_number f ≢ 0
+fault_some TooLong e = omega arith
+fault_some Misplaced e = omega arith
+fault_some Repeated e = omega arith
+fault_some Unknown e = omega arith
+fault_some FieldsDiffer e = omega arith
+fault_some NoAncestor e = omega arith
+fault_some TooMany e = omega arith
 
 pub record Took (l : Library) (line : Line) (f : Form) (fault r : ℕ) (after : Library) : Type 0 where
   pub number : r ≡ fault

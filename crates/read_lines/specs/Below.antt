@@ -1,5 +1,5 @@
 -- The lines of a text from a place on, one by one, and whether they still define a method of the class above them.
-use Rattle.std.specs.Prelude.{ℕ, ◌+◌, ◌-◌, ◌≤◌, ◌<◌, ◌≡◌, ◌≢◌, Bool, ◌||◌, get_or, drop}
+use Rattle.std.specs.Prelude.{ℕ, ◌+◌, ◌-◌, ◌≤◌, ◌<◌, ◌≡◌, ◌≢◌, Bool, ◌||◌, cond, drop, Option, Some, None}
 use Rattle.std.proofs.Math.Path.{refl, ap}
 use Rattle.std.proofs.Common.{◌∙◌, arith}
 use Rattle.std.proofs.Math.Bool.{true, false}
@@ -13,7 +13,6 @@ use Rattle.model.specs.Form.{Form, class_line, field_line, method_line, statemen
 use Rattle.model.specs.Fault.{later}
 use Rattle.text_lex.specs.Scan.{is_byte, before}
 use Rattle.text_lex.specs.Piece.{is_empty, pieces_step, piece_at, none_after, pieces_after_law}
-use Rattle.text_syntax.specs.Kinds.{kind_of}
 use Rattle.read_classes.specs.Lines.{line_of}
 
 -- The lines from a place on.
@@ -57,18 +56,10 @@ look_at m end_line = 0
 look_at m (object_line n c vs) = 2
 look_at m malformed = 0
 
--- The same by the line's kind, except for a method line.
-abbrev pub look_by : ℕ → ℕ
-look_by k = get_or (2 ∷ 0 ∷ 0 ∷ 0 ∷ 0 ∷ 2 ∷ 0 ∷ []) k 0
-
-pub look_by_law : (m : Name) (f : Form) → kind_of f ≢ 2 → look_by (kind_of f) ≡ look_at m f
-look_by_law m (class_line n ps) h = refl
-look_by_law m (field_line n) h = refl
-look_by_law m (method_line n) h = absurd (h refl)
-look_by_law m (statement_line s) h = refl
-look_by_law m end_line h = refl
-look_by_law m (object_line n c vs) h = refl
-look_by_law m malformed h = refl
+-- The same as the code answers it: whether the line defines the method, where it decides.
+abbrev pub seen : Option Bool → ℕ
+seen None = 0
+seen (Some d) = cond d 1 2
 
 -- Whether the lines still define the method m.
 abbrev pub is_later : Name → List Line → Bool

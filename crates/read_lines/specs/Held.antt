@@ -1,8 +1,8 @@
 -- What a class has, and what the class being read may name, by the tables.
 use Prim.Native.Nat.{ℕ, ◌+◌, ◌≤◌, ◌<◌}
-use Rattle.std.specs.Prelude.{◌≡◌, ◌≢◌, Bool, true, false, cond, ◌&&◌, ◌||◌, length, take, drop}
+use Rattle.std.specs.Prelude.{◌≡◌, ◌≢◌, Bool, false, ◌&&◌, ◌||◌, length, take, drop}
 use Rattle.std.proofs.Math.Path.{sym, ap, ap₂}
-use Rattle.std.proofs.Common.{◌∙◌, arith, take_all, le-ltb, eq-eqb, ne_eqb}
+use Rattle.std.proofs.Common.{◌∙◌, take_all, lt-ltb, le-ltb, eq-eqb, ne_eqb}
 use Rattle.std.proofs.Math.Bool.{not}
 use mathlib.Core.List.{List, [], ◌∷◌}
 use Rattle.std.proofs.Math.Dec.{ltb}
@@ -11,30 +11,32 @@ use Rattle.model.specs.Base.{any, upto}
 use Rattle.model.specs.Text.{pieces}
 use Rattle.model.specs.Word.{Name, is_name}
 use Rattle.model.specs.Form.{Line}
-use Rattle.model.specs.Library.{Member, Class, member_place, among, class_number, class_at, class_name, last_number, last_class}
+use Rattle.model.specs.Library.{Member, Class, among, class_number, class_at, class_name, last_number, last_class}
 use Rattle.model.specs.Fault.{own_method, method_of}
 use Rattle.text_lex.specs.Scan.{is_byte, before}
 use Rattle.text_lex.specs.Piece.{pieces_after, first, first_piece, none_after, cons_after}
 use Rattle.catalog.specs.View.{class_word, class_count, member_count, member_at, members_of, class_of, library_of}
 use Rattle.laws.specs.Bits.{bit}
-use Rattle.catalog.specs.Look.{shown_count, part, class_at_law, class_past, shown_members, member_count_law, among_place, is_class_law}
+use Rattle.catalog.specs.Look.{shown_count, part, class_at_law, class_past, shown_members, is_class_law}
 use Rattle.read_lines.specs.Below.{is_later}
 use Rattle.read_lines.specs.Lower.{lowest}
 use Rattle.read_lines.specs.Mentioned.{is_stray, is_foreign, method_at, target_fault}
 use Rattle.read_lines.specs.Added.{last_of, last_number_law, last_class_law}
 
 module _ (text ws : List ℕ) where
-  pub has_member : (k p : ℕ) → p < 2 → (n : Name) {place count : ℕ} → place ≡ member_place (members_of text ws k p) n → count ≡ shown_count ws k p
-      → ltb place count ≡ among (part p (class_at (library_of text ws) k)) n
-  unfolding shown_count members_of upto among any
-  has_member k p h n e q = (λ i. ltb (e i) (q i)) ∙ sym (ap (λ (ms : List Member). among ms n) (shown_members text ws k p h) ∙ go (ltb k (class_count ws)))
-    where
-      place : ℕ
-      place = member_place (members_of text ws k p) n
+  -- A counted class has the members of its row, and a number past those of the classes has none.
+  module _ (k p : ℕ) (h : p < 2) (n : Name) where
+    pub has_shown : k < class_count ws → among (members_of text ws k p) n ≡ among (part p (class_at (library_of text ws) k)) n
+    unfolding shown_count members_of
+    has_shown l =
+        let e : shown_count ws k p ≡ member_count ws k p = rw (lt-ltb k (class_count ws) l) in
+        ap (λ (i : ℕ). among (upto (member_at text ws k p) i) n) (sym e) ∙ ap (λ (ms : List Member). among ms n) (sym (shown_members text ws k p h))
 
-      go : (t : Bool) → among (upto (member_at text ws k p) (cond t (member_count ws k p) 0)) n ≡ ltb place (cond t (member_count ws k p) 0)
-      go true = among_place (members_of text ws k p) n ∙ ap (ltb place) (member_count_law text ws k p)
-      go false = sym (le-ltb place 0 (omega arith))
+    pub has_past : class_count ws ≤ k → false ≡ among (part p (class_at (library_of text ws) k)) n
+    unfolding shown_count upto among any
+    has_past l =
+        let e : shown_count ws k p ≡ 0 = rw (le-ltb k (class_count ws) l) in
+        sym (ap (λ (ms : List Member). among ms n) (shown_members text ws k p h) ∙ ap (λ (i : ℕ). among (upto (member_at text ws k p) i) n) e)
 
   -- The class k is the one being read.
   last_at : (k : ℕ) → k ≡ last_of ws → class_at (library_of text ws) k ≡ last_class (library_of text ws)

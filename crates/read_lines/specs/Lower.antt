@@ -1,7 +1,6 @@
 -- The lower of two faults, 0 being none, and the faults of a statement's words: 14 before 16.
-use Rattle.std.specs.Prelude.{ℕ, zero, suc, min, ◌≡◌, refl, Bool, true, false, not, cond, ◌&&◌, ◌||◌, eqb, leb}
-use Rattle.std.proofs.Common.{sym, ap, ◌∙◌, true≢false, arith, leb-true, leb-false, ne_eqb}
-use Rattle.std.proofs.lemmas.Bool.{false≢true}
+use Rattle.std.specs.Prelude.{ℕ, zero, suc, min, ◌≡◌, refl, Bool, true, false, cond, ◌||◌, eqb}
+use Rattle.std.proofs.Common.{arith}
 
 abbrev pub lower : ℕ → ℕ → ℕ
 lower zero b = b
@@ -17,27 +16,6 @@ lower_assoc (suc a) (suc b) (suc c) = omega arith
 pub lower_zero : (a : ℕ) → lower a 0 ≡ a
 lower_zero zero = refl
 lower_zero (suc a) = refl
-
--- The test that the code makes.
-abbrev pub is_lower : ℕ → ℕ → Bool
-is_lower a b = eqb b 0 || not (eqb a 0) && leb a b
-
-some : (b : ℕ) → eqb (suc b) 0 ≡ false
-some b = ne_eqb (suc b) 0 (λ e. omega arith)
-
-tested : (a b : ℕ) → is_lower (suc a) (suc b) ≡ leb (suc a) (suc b)
-tested a b = rw (some b, some a)
-
-pub lower_first : (a b : ℕ) → is_lower a b ≡ true → a ≡ lower a b
-lower_first zero zero h = refl
-lower_first zero (suc b) h = absurd (false≢true (ap (λ (t : Bool). t || false) (sym (some b)) ∙ h))
-lower_first (suc a) zero h = refl
-lower_first (suc a) (suc b) h = let k = leb-true (suc a) (suc b) (sym (tested a b) ∙ h) in omega arith
-
-pub lower_second : (a b : ℕ) → is_lower a b ≡ false → b ≡ lower a b
-lower_second zero b h = refl
-lower_second (suc a) zero h = absurd (true≢false h)
-lower_second (suc a) (suc b) h = let k = leb-false (suc a) (suc b) (sym (tested a b) ∙ h) in omega arith
 
 -- 14 where the first test holds, 16 where only the second does.
 abbrev pub lowest : Bool → Bool → ℕ

@@ -1,5 +1,5 @@
-// The lines of bodies and of objects in the second pass: statement and object lines. A line function answers the line's fault, or
-// records the line and answers 0. A line is given by two places; what lies past the end of the text is left out.
+// The lines of bodies and of objects in the second pass: statement and object lines. A line function records the line,
+// or answers its fault. A line is given by two places; what lies past the end of the text is left out.
 #![tactic(auto)]
 
 ghost use Rattle.std.specs.Prelude.{ℕ, ◌≤◌, ◌<◌, ◌≡◌, List, [], ◌∷◌, length};
@@ -11,34 +11,32 @@ ghost use Rattle.model.specs.Fault.{own_method, object_fault};
 ghost use Rattle.catalog.specs.View.{library_of};
 ghost use Rattle.catalog.specs.Look.{part};
 ghost use Rattle.read_classes.specs.Took.{Lent};
-ghost use Rattle.read_lines.specs.Below.{lines_at, look_at, is_later};
+ghost use Rattle.refusals.specs.Numbers.{fault_in};
+ghost use Rattle.read_lines.specs.Below.{lines_at, look_at, seen, is_later};
 ghost use Rattle.read_lines.specs.Lower.{lower, lowest};
 ghost use Rattle.read_lines.specs.Mentioned.{is_stray, method_at, target_fault, word_fault, fault_behind};
 ghost use Rattle.read_lines.specs.Added.{last_of, Counts, with_statement_at, with_object_words};
 ghost use Rattle.read_lines.specs.Objects.{object_lowest};
 ghost use Rattle.read_lines.specs.Took.{StatementTook, ObjectTook};
 
+use refusals::Fault;
+use std::ops::Range;
 use text_syntax::form::Kind;
 
 const POINT: u8 = 46;
 
-// The kinds of members.
-// What a line means for a method of the class above: 1 it defines it, 2 the class ends there, 0 neither.
-fn look(line: &[u8], method: &[u8]) -> u32
-    ensures { result ≡ look_at method.now (form_of (words line.now)) }
+// Whether a line decides if the class above still defines a method: true where the line defines it, false where the class ends.
+fn look(line: &[u8], method: &[u8]) -> Option<bool>
+    ensures { seen result ≡ look_at method.now (form_of (words line.now)) }
 {
-    let kind = text_syntax::form::kind_of(line);
-    match kind {
-        Kind::Class => 2,
-        Kind::Field => 0,
-        Kind::Method => text_lex::same(
+    match text_syntax::form::kind_of(line) {
+        Some(Kind::Class | Kind::Object) => Some(false),
+        Some(Kind::Method) => text_lex::same(
             method,
             text_lex::word_after(line, text_lex::word_end(line, 0)),
-        ) as u32,
-        Kind::Statement => 0,
-        Kind::End => 0,
-        Kind::Object => 2,
-        Kind::Malformed => 0,
+        )
+        .then_some(true),
+        _ => None,
     }
 }
 
@@ -46,12 +44,12 @@ fn look(line: &[u8], method: &[u8]) -> u32
 fn is_later(text: &[u8], from: usize, method: &[u8]) -> bool
     ensures { result ≡ is_later method.now (lines_at text.now from) }
 {
+    // The loop goes from line end to line end, as `lines_at` does; an iterator would hand out the same two places.
     let mut at = from;
     let mut end = text_lex::line_end(text, at);
     while end < text.len() {
-        let seen = look(&text[at..end], method);
-        if seen != 0 {
-            return seen == 1;
+        if let Some(defined) = look(&text[at..end], method) {
+            return defined;
         }
         at = end + 1;
         end = text_lex::line_end(text, at);
@@ -59,150 +57,156 @@ fn is_later(text: &[u8], from: usize, method: &[u8]) -> bool
     false
 }
 
-// The class being read: the last one, or 0 where there is none.
+// The class being read: the last one, or 0 where there is none, as the definition `last_number` has it.
 fn last_class(tables: &[u32]) -> u32
     ensures { result ≡ last_of tables.now }
 {
-    let count = catalog::class_count(tables);
-    if count == 0 { 0 } else { count - 1 }
+    catalog::class_count(tables).saturating_sub(1)
 }
 
-// Whether a class has a field or a method of that name.
-fn has_member(text: &[u8], tables: &[u32], class: u32, kind: u32, name: &[u8]) -> bool
-    requires { kind < 2 }
-    ensures { result ≡ among (part kind (class_at (library_of text.now tables.now) class)) name.now }
-{
-    catalog::find(text, tables, class, kind, name) < catalog::shown_count(tables, class, kind)
-}
-
-// Whether the word is a name but no field of the class being read.
-fn is_stray(text: &[u8], tables: &[u32], word: &[u8]) -> bool
-    ensures { result ≡ is_stray (library_of text.now tables.now) word.now }
-{
-    text_lex::is_name(word) & !has_member(text, tables, last_class(tables), layout::FIELDS, word)
-}
-
-// Whether the class being read has the method, or defines it further below.
-fn is_own(text: &[u8], tables: &[u32], below: usize, method: &[u8]) -> bool
-    ensures { result ≡ own_method (library_of text.now tables.now) (lines_at text.now below) method.now }
-{
-    if has_member(text, tables, last_class(tables), layout::METHODS, method) {
-        true
-    } else {
-        is_later(text, below, method)
-    }
-}
-
-// Whether the class with a number has the method; the class being read may define it further below.
-fn has_method(text: &[u8], tables: &[u32], below: usize, class: u32, method: &[u8]) -> bool
-    ensures { result ≡ method_at (library_of text.now tables.now) (lines_at text.now below) class method.now }
-{
-    if class == last_class(tables) {
-        is_own(text, tables, below, method)
-    } else {
-        has_member(text, tables, class, layout::METHODS, method)
-    }
-}
-
-// Whether the class with a number is a proper ancestor of the one being read.
-fn is_ancestor(tables: &[u32], class: u32) -> bool
-    ensures { (text : List ℕ) → result ≡ (last_class (library_of text tables.now)).ancestors class }
-{
-    let last = last_class(tables);
-    if last < catalog::class_count(tables) {
-        catalog::has_bit(catalog::ancestors(tables, last), class)
-    } else {
-        false
-    }
-}
-
-// 14 where something is unknown, else 16 where a prefix is no ancestor.
-fn lowest(unknown: bool, foreign: bool) -> u32
-    ensures { result ≡ lowest unknown foreign }
+// Refuses what is unknown, else a prefix that is no ancestor.
+fn lowest(unknown: bool, foreign: bool) -> Result<(), Fault>
+    ensures { fault_in result ≡ lowest unknown foreign }
 {
     if unknown {
-        14
-    } else if foreign {
-        16
-    } else {
-        0
+        return Err(Fault::Unknown);
+    }
+    if foreign {
+        return Err(Fault::NoAncestor);
+    }
+    Ok(())
+}
+
+// The lower of two faults.
+fn lower(a: Result<(), Fault>, b: Result<(), Fault>) -> Result<(), Fault>
+    ensures { fault_in result ≡ lower (fault_in a) (fault_in b) }
+{
+    match (a, b) {
+        (Err(fault), Err(other)) if other.number() < fault.number() => b,
+        (Err(_), _) => a,
+        (Ok(()), _) => b,
     }
 }
 
-// The lower of two faults, 0 being none.
-fn lower(a: u32, b: u32) -> u32
-    ensures { result ≡ lower a b }
-{
-    if (b == 0) | (a != 0) & (a <= b) { a } else { b }
+// What a statement may name: the classes read so far, and the methods that the lines from `below` on add to the last of them.
+#[derive(Clone, Copy)]
+struct Scope<'a> {
+    text: &'a [u8],
+    tables: &'a [u32],
+    below: usize,
 }
 
-// The fault of the target `C.M` of a send, or 0.
-fn prefixed_fault(text: &[u8], tables: &[u32], below: usize, class: &[u8], method: &[u8]) -> u32
-    ensures { result ≡ target_fault (library_of text.now tables.now) (lines_at text.now below) (class.now ∷ method.now ∷ []) }
-{
-    let number = catalog::class_number(text, tables, class);
-    let known = number < catalog::class_count(tables);
-    let unknown = !known | !has_method(text, tables, below, number, method);
-    lowest(unknown, !is_ancestor(tables, number))
-}
+impl Scope<'_> {
+    // Whether a class has a field or a method of that name.
+    fn has_member(&self, class: u32, kind: u32, name: &[u8]) -> bool
+        requires { kind < 2 }
+        ensures { result ≡ among (part kind (class_at (library_of self.now.text.now self.now.tables.now) class)) name.now }
+    {
+        class < catalog::class_count(self.tables)
+            && read_classes::has_member(self.text, self.tables, class, kind, name)
+    }
 
-// The fault of the target of a send, `M` or `C.M`, or 0.
-fn target_fault(text: &[u8], tables: &[u32], below: usize, target: &[u8]) -> u32
-    ensures { result ≡ target_fault (library_of text.now tables.now) (lines_at text.now below) (pieces 46 target.now) }
-{
-    let point = text_lex::piece_end(target, 0, POINT);
-    if point < target.len() {
-        let method = text_lex::piece_after(target, point, POINT);
-        prefixed_fault(text, tables, below, &target[..point], method)
-    } else {
-        lowest(!is_own(text, tables, below, target), false)
+    // Whether the word is a name but no field of the class being read.
+    fn is_stray(&self, word: &[u8]) -> bool
+        ensures { result ≡ is_stray (library_of self.now.text.now self.now.tables.now) word.now }
+    {
+        text_lex::is_name(word) & !self.has_member(last_class(self.tables), layout::FIELDS, word)
+    }
+
+    // Whether the class being read has the method, or defines it further below.
+    fn is_own(&self, method: &[u8]) -> bool
+        ensures { result ≡ own_method (library_of self.now.text.now self.now.tables.now) (lines_at self.now.text.now self.now.below) method.now }
+    {
+        self.has_member(last_class(self.tables), layout::METHODS, method)
+            || is_later(self.text, self.below, method)
+    }
+
+    // Whether the class with a number has the method; the class being read may define it further below.
+    fn has_method(&self, class: u32, method: &[u8]) -> bool
+        ensures { result ≡ method_at (library_of self.now.text.now self.now.tables.now) (lines_at self.now.text.now self.now.below) class method.now }
+    {
+        if class == last_class(self.tables) {
+            self.is_own(method)
+        } else {
+            self.has_member(class, layout::METHODS, method)
+        }
+    }
+
+    // Whether the class with a number is a proper ancestor of the one being read.
+    fn is_ancestor(&self, class: u32) -> bool
+        ensures { (text : List ℕ) → result ≡ (last_class (library_of text self.now.tables.now)).ancestors class }
+    {
+        let last = last_class(self.tables);
+        last < catalog::class_count(self.tables)
+            && catalog::has_bit(catalog::ancestors(self.tables, last), class)
+    }
+
+    // The fault of the target `C.M` of a send.
+    fn prefixed_fault(&self, class: &[u8], method: &[u8]) -> Result<(), Fault>
+        ensures { fault_in result ≡ target_fault (library_of self.now.text.now self.now.tables.now) (lines_at self.now.text.now self.now.below) (class.now ∷ method.now ∷ []) }
+    {
+        let number = catalog::class_number(self.text, self.tables, class);
+        let known = number < catalog::class_count(self.tables);
+        let unknown = !known | !self.has_method(number, method);
+        lowest(unknown, !self.is_ancestor(number))
+    }
+
+    // The fault of the target of a send, `M` or `C.M`.
+    fn target_fault(&self, target: &[u8]) -> Result<(), Fault>
+        ensures { fault_in result ≡ target_fault (library_of self.now.text.now self.now.tables.now) (lines_at self.now.text.now self.now.below) (pieces 46 target.now) }
+    {
+        let point = text_lex::piece_end(target, 0, POINT);
+        if point < target.len() {
+            let method = text_lex::piece_after(target, point, POINT);
+            self.prefixed_fault(&target[..point], method)
+        } else {
+            lowest(!self.is_own(target), false)
+        }
+    }
+
+    // The fault of a word of a statement; `sent` where it follows `send`.
+    fn word_fault(&self, word: &[u8], sent: bool) -> Result<(), Fault>
+        ensures { fault_in result ≡ word_fault (library_of self.now.text.now self.now.tables.now) (lines_at self.now.text.now self.now.below) sent word.now }
+    {
+        if sent {
+            self.target_fault(word)
+        } else {
+            lowest(self.is_stray(word), false)
+        }
+    }
+
+    // The lowest fault of the words of a statement line.
+    fn words_fault(&self, line: &[u8]) -> Result<(), Fault>
+        ensures { fault_in result ≡ fault_behind (library_of self.now.text.now self.now.tables.now) (lines_at self.now.text.now self.now.below) (words line.now) }
+    {
+        let first = text_lex::word_end(line, 0);
+        let mut sent = text_lex::same(&line[..first], b"send");
+        let mut fault = Ok(());
+        for word in text_lex::words_after(line, first) {
+            fault = lower(fault, self.word_fault(word, sent));
+            sent = !sent & text_lex::same(word, b"send");
+        }
+        fault
     }
 }
 
-// The fault of a word of a statement, or 0; `sent` where it follows `send`.
-fn word_fault(text: &[u8], tables: &[u32], below: usize, word: &[u8], sent: bool) -> u32
-    ensures { result ≡ word_fault (library_of text.now tables.now) (lines_at text.now below) sent word.now }
-{
-    if sent {
-        target_fault(text, tables, below, word)
-    } else {
-        lowest(is_stray(text, tables, word), false)
-    }
-}
-
-// The fault of the words of a statement line: 14, 16 or 0.
-fn words_fault(text: &[u8], tables: &[u32], below: usize, line: &[u8]) -> u32
-    ensures { result ≡ fault_behind (library_of text.now tables.now) (lines_at text.now below) (words line.now) }
-{
-    let mut at = text_lex::word_end(line, 0);
-    let mut sent = text_lex::same(&line[..at], b"send");
-    let mut fault = 0;
-    while at < line.len() {
-        let word = text_lex::word_after(line, at);
-        fault = lower(fault, word_fault(text, tables, below, word, sent));
-        sent = !sent & text_lex::same(word, b"send");
-        at = text_lex::word_end_after(line, at);
-    }
-    fault
-}
-
-// Counts one more statement in the method being read; 17 where it already has 32.
-fn count_statement(tables: &mut [u32]) -> u32
+// Counts one more statement in the method being read, which has room for 32.
+fn count_statement(tables: &mut [u32]) -> Result<(), Fault>
     requires { length tables.old ≡ table_words }
-    ensures { (text : List ℕ) → Counts text tables.old result tables.new }
+    ensures { (text : List ℕ) → Counts text tables.old (fault_in result) tables.new }
 {
     let class = last_class(tables);
     let method = catalog::class_word(tables, class, layout::LATEST_AT);
     if catalog::shown_count(tables, class, layout::METHODS) <= method {
-        return 0;
+        return Ok(());
     }
     let word = catalog::member_word(tables, class, layout::METHODS, method);
     let body = catalog::body_word(tables, class, layout::METHODS, method);
     if 32 <= body % 64 {
-        return 17;
+        return Err(Fault::TooMany);
     }
     catalog::put_member(tables, class, layout::METHODS, method, word, body + 1);
-    0
+    Ok(())
 }
 
 // Appends the place of a statement to the others.
@@ -218,24 +222,31 @@ fn put_statement(tables: &mut [u32], at: usize, size: usize)
     memory::put(tables, layout::STATEMENT_COUNT_AT, count + 1);
 }
 
-// 13 where the name is taken, else 14 where the class is unknown, else 17 where there are too many objects or values, else 0.
-fn object_lowest(taken: bool, unknown: bool, many: bool) -> u32
-    ensures { result ≡ object_lowest taken unknown many }
+// Refuses a name that is taken, else an unknown class, else too many objects or values.
+fn object_lowest(taken: bool, unknown: bool, many: bool) -> Result<(), Fault>
+    ensures { fault_in result ≡ object_lowest taken unknown many }
 {
     if taken {
-        13
-    } else if unknown {
-        14
-    } else if many {
-        17
-    } else {
-        0
+        return Err(Fault::Repeated);
     }
+    if unknown {
+        return Err(Fault::Unknown);
+    }
+    if many {
+        return Err(Fault::TooMany);
+    }
+    Ok(())
 }
 
-// The fault of an object with `values` values, or 0.
-fn object_fault(text: &[u8], tables: &[u32], name: &[u8], class: &[u8], values: usize) -> u32
-    ensures { (vs : List ℕ) → length vs ≡ values → result ≡ object_fault (library_of text.now tables.now) name.now class.now vs }
+// The fault of an object with `values` values.
+fn object_fault(
+    text: &[u8],
+    tables: &[u32],
+    name: &[u8],
+    class: &[u8],
+    values: usize,
+) -> Result<(), Fault>
+    ensures { (vs : List ℕ) → length vs ≡ values → fault_in result ≡ object_fault (library_of text.now tables.now) name.now class.now vs }
 {
     let objects = catalog::object_count(tables);
     let taken = catalog::object_number(text, tables, name) < objects;
@@ -256,67 +267,62 @@ fn put_object(tables: &mut [u32], word: u32, class: u32, part: u32)
     memory::put(tables, layout::OBJECT_COUNT_AT, object + 1);
 }
 
-// Records a statement line that lies within the text; answers its fault, or 0.
-fn take_statement(text: &[u8], tables: &mut [u32], at: usize, end: usize) -> u32
-    requires { Lent text.now tables.old at end }
-    ensures { StatementTook text.now tables.old at end result tables.new }
+// Records a statement line that lies within the text.
+fn take_statement(text: &[u8], tables: &mut [u32], place: &Range<usize>) -> Result<(), Fault>
+    requires { Lent text.now tables.old place.now.start place.now.end }
+    ensures { StatementTook text.now tables.old place.now.start place.now.end (fault_in result) tables.new }
 {
-    let fault = words_fault(text, tables, end + 1, &text[at..end]);
-    if fault != 0 {
-        return fault;
-    }
-    let fault = count_statement(tables);
-    if fault != 0 {
-        return fault;
-    }
-    put_statement(tables, at, end - at);
-    0
+    let scope = Scope {
+        text,
+        tables,
+        below: place.end + 1,
+    };
+    scope.words_fault(&text[place.start..place.end])?;
+    count_statement(tables)?;
+    put_statement(tables, place.start, place.end - place.start);
+    Ok(())
 }
 
-// Records a statement line: counts the statement in its method and keeps its place; answers its fault, or 0.
-pub fn statement_line(text: &[u8], tables: &mut [u32], at: usize, end: usize) -> u32
+// Records a statement line: counts the statement in its method and keeps its place.
+pub fn statement_line(text: &[u8], tables: &mut [u32], at: usize, end: usize) -> Result<(), Fault>
     requires text_len_bound { length text.now ≤ 32768 }
     requires tables_len { length tables.old ≡ table_words }
-    ensures { StatementTook text.now tables.old at end result tables.new }
+    ensures { StatementTook text.now tables.old at end (fault_in result) tables.new }
 {
-    let stop = read_classes::least(end, text.len());
-    take_statement(text, tables, read_classes::least(at, stop), stop)
+    take_statement(text, tables, &read_classes::clip(text, at, end))
 }
 
-// Records an object line that lies within the text; answers its fault, or 0.
-fn take_object(text: &[u8], tables: &mut [u32], at: usize, end: usize) -> u32
-    requires { Lent text.now tables.old at end }
-    ensures { ObjectTook text.now tables.old at end result tables.new }
+// Records an object line that lies within the text.
+fn take_object(text: &[u8], tables: &mut [u32], place: &Range<usize>) -> Result<(), Fault>
+    requires { Lent text.now tables.old place.now.start place.now.end }
+    ensures { ObjectTook text.now tables.old place.now.start place.now.end (fault_in result) tables.new }
 {
-    let line = &text[at..end];
+    let at = place.start;
+    let line = &text[at..place.end];
     let first = text_lex::word_end(line, 0);
     let name_end = text_lex::word_end_after(line, first);
     let class_end = text_lex::word_end_after(line, name_end);
     let name = text_lex::word_after(line, first);
     let class = text_lex::word_after(line, name_end);
-    let fault = object_fault(
+    object_fault(
         text,
         tables,
         name,
         class,
         read_parents::count(&line[class_end..]),
-    );
-    if fault != 0 {
-        return fault;
-    }
+    )?;
     let number = catalog::class_number(text, tables, class);
     let word = catalog::name_word(0, at + first + 1, name.len());
     let part = catalog::part_word(at + class_end, line.len() - class_end);
     put_object(tables, word, number, part);
-    0
+    Ok(())
 }
 
-// Records an object line; answers its fault, or 0.
-pub fn object_line(text: &[u8], tables: &mut [u32], at: usize, end: usize) -> u32
+// Records an object line.
+pub fn object_line(text: &[u8], tables: &mut [u32], at: usize, end: usize) -> Result<(), Fault>
     requires text_len_bound { length text.now ≤ 32768 }
     requires tables_len { length tables.old ≡ table_words }
-    ensures { ObjectTook text.now tables.old at end result tables.new }
+    ensures { ObjectTook text.now tables.old at end (fault_in result) tables.new }
 {
-    let stop = read_classes::least(end, text.len());
-    take_object(text, tables, read_classes::least(at, stop), stop)
+    take_object(text, tables, &read_classes::clip(text, at, end))
 }

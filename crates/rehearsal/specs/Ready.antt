@@ -1,5 +1,5 @@
 -- What the start of a rehearsal promises: the line of a refused text, or the machine started on the text's starting values.
-use Rattle.std.specs.Prelude.{ℕ, ◌≤◌, ◌≡◌, List, length, take, drop}
+use Rattle.std.specs.Prelude.{Result, Ok, Err, ℕ, ◌≤◌, ◌≡◌, List, length, take, drop}
 use Rattle.layout.specs.Layout.{state_words}
 use Rattle.model.specs.Library.{Library}
 use Rattle.model.specs.Read.{Reading, accepted, refused, read}
@@ -9,8 +9,7 @@ use Rattle.model.specs.Tables.{refusal_printed}
 use Rattle.output.specs.Append.{Printed}
 use Rattle.machine_words.specs.Calls.{Lent, lending}
 use Rattle.machine_refinement.specs.Rep.{Fresh}
-use Rattle.rehearsal.specs.declared.Prepared.{Prepared}
-use Rattle.rehearsal.specs.declared.Prepared.TheVariants.{Refused, Ready}
+use Rattle.rehearsal.specs.declared.NotReady.{NotReady}
 
 -- The most bytes that the line of a refused text has.
 abbrev pub refusal_most : ℕ
@@ -36,12 +35,16 @@ pub record Readied (x : Lent) (l : Library) (count : ℕ) (y : Lent) : Type 0 wh
   pub started : Started x l (with_first count y)
   pub rest : drop count y.values ≡ drop count x.values
 
+-- What `prepare` answers: the number of values, or a refused text.
+abbrev pub Prepared : Type 0
+Prepared = Result ℕ NotReady
+
 -- A refused text's line is written, and nothing else; an accepted text is started on, and nothing is written.
 abbrev pub PreparesOn : Lent → List ℕ → Reading → Prepared → Lent → List ℕ → Type 0
-PreparesOn x out (refused fault line) (Refused size) y out' = Printed (refusal_printed fault line) out size out' × (y ≡ x)
-PreparesOn x out (refused fault line) (Ready count) y out' = ⊥
-PreparesOn x out (accepted l) (Refused size) y out' = ⊥
-PreparesOn x out (accepted l) (Ready count) y out' = Readied x l count y × (out' ≡ out)
+PreparesOn x out (refused fault line) (Err e) y out' = Printed (refusal_printed fault line) out e.size out' × (y ≡ x)
+PreparesOn x out (refused fault line) (Ok count) y out' = ⊥
+PreparesOn x out (accepted l) (Err e) y out' = ⊥
+PreparesOn x out (accepted l) (Ok count) y out' = Readied x l count y × (out' ≡ out)
 
 -- The start of a rehearsal, by the reading of the text, on what is lent and a buffer.
 pub record Prepares (x : Lent) (out : List ℕ) (r : Prepared) (y : Lent) (out' : List ℕ) : Type 0 where

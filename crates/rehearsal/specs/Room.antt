@@ -1,5 +1,5 @@
 -- How much room is enough for what a rehearsal writes at its start and at its end.
-use Rattle.std.specs.Prelude.{ℕ, zero, suc, ◌*◌, ◌≤◌, ◌≡◌, List, [], ◌∷◌, ◌++◌, length, drop}
+use Rattle.std.specs.Prelude.{Ok, Err, ℕ, zero, suc, ◌*◌, ◌≤◌, ◌≡◌, List, [], ◌∷◌, ◌++◌, length, drop}
 use Rattle.std.proofs.Common.{add-one, arith, ap, subst, length-append}
 use Rattle.std.proofs.Math.Path.{refl}
 use Rattle.model.specs.Base.{bytes, upto}
@@ -12,9 +12,8 @@ use Rattle.output.specs.Digits.{digits_le}
 use Rattle.call_lines.specs.Lent.{lent_last, on_lent}
 use Rattle.call_lines.specs.Objects.{object_printed, object_few, lines_to, values_to, lines_next}
 use Rattle.rehearsal.specs.Parts.{ended}
-use Rattle.rehearsal.specs.declared.Prepared.{Prepared}
-use Rattle.rehearsal.specs.declared.Prepared.TheVariants.{Refused, Ready}
-use Rattle.rehearsal.specs.Ready.{refusal_most, PreparesOn, Prepares}
+use Rattle.rehearsal.specs.declared.NotReady.{NotReady}
+use Rattle.rehearsal.specs.Ready.{refusal_most, Prepared, PreparesOn, Prepares}
 use Rattle.rehearsal.specs.Feeds.{end_most}
 
 -- The line of a refused text: two numbers of at most ten digits.
@@ -35,17 +34,17 @@ refusal_few fault line =
 
 -- What `prepare` answers: the size of that line, or a number of values that are there.
 module _ {x y : Lent} {out out' : List ℕ} {r : Prepared} (p : Prepares x out r y out') where
-  pub refused_size : (size : ℕ) → r ≡ Refused size → size ≤ refusal_most
-  refused_size size e = go (read x.text) (subst (λ (q : Prepared). PreparesOn x out (read x.text) q y out') e p.by_reading)
+  pub refused_size : (n : NotReady) → r ≡ Err n → n.size ≤ refusal_most
+  refused_size n e = go (read x.text) (subst (λ (q : Prepared). PreparesOn x out (read x.text) q y out') e p.by_reading)
     where
-      go : (t : Reading) → PreparesOn x out t (Refused size) y out' → size ≤ refusal_most
+      go : (t : Reading) → PreparesOn x out t (Err n) y out' → n.size ≤ refusal_most
       go (refused fault line) h = omega (arith, h.0.count, refusal_few fault line)
       go (accepted l) h = absurd h
 
-  pub ready_count : (count : ℕ) → r ≡ Ready count → count ≤ length y.values
+  pub ready_count : (count : ℕ) → r ≡ Ok count → count ≤ length y.values
   ready_count count e = go (read x.text) (subst (λ (q : Prepared). PreparesOn x out (read x.text) q y out') e p.by_reading)
     where
-      go : (t : Reading) → PreparesOn x out t (Ready count) y out' → count ≤ length y.values
+      go : (t : Reading) → PreparesOn x out t (Ok count) y out' → count ≤ length y.values
       go (refused fault line) h = absurd h
       go (accepted l) h = h.0.within
 

@@ -1,5 +1,5 @@
 -- What the start of a rehearsal promises, from what the reader and the entries ensure.
-use Rattle.std.specs.Prelude.{ℕ, ◌≤◌, ◌≡◌, refl, List, ◌++◌, length, take, drop}
+use Rattle.std.specs.Prelude.{Ok, Err, ℕ, ◌≤◌, ◌≡◌, refl, List, ◌++◌, length, take, drop}
 use Rattle.std.proofs.Common.{arith, sym, ap, subst, ◌∙◌, length-append, length-take-le, take_at, drop_at, le-ltb, eq-eqb}
 use Rattle.layout.specs.Layout.{state_words, values_most}
 use Rattle.model.specs.Read.{Reading, accepted, refused, read, library_in, library}
@@ -13,14 +13,13 @@ use Rattle.image.specs.Sizes.{value_count, values_le}
 use Rattle.output.specs.Append.{Printed}
 use Rattle.machine_words.specs.Calls.{Lent, lending}
 use Rattle.machine_refinement.specs.Rep.{Fresh}
-use Rattle.cishmolaq.specs.declared.Answer.{Answer}
-use Rattle.cishmolaq.specs.Answers.{Starts, StartLeaves, Begins}
+use Rattle.cishmolaq.specs.Answers.{Done, Starts, StartLeaves, Begins}
 use Rattle.cishmolaq.specs.Laws.{count_is}
-use Rattle.rehearsal.specs.declared.Prepared.TheVariants.{Refused, Ready}
+use Rattle.rehearsal.specs.declared.NotReady.{NotReady}
 use Rattle.rehearsal.specs.Ready.{StartsOn, with_first, Readied, PreparesOn, Prepares}
 
 -- The entries are done where the list has as many values as the text, and the state is long enough.
-pub starts_on : (text list ws : List ℕ) → state_words ≤ length ws → {a b : Answer} {values state : List ℕ}
+pub starts_on : (text list ws : List ℕ) → state_words ≤ length ws → {a b : Done} {values state : List ℕ}
     → Starts text list a values → Begins (lending text ws values) b (lending text state values) → StartsOn (lending text ws list) (lending text state values)
 unfolding starting_values_into start_answer library
 starts_on text list ws long {a} {b} {values} {state} h k l e n =
@@ -36,15 +35,15 @@ pub values_few : (tables : List ℕ) {count : ℕ} → count ≡ value_count tab
 values_few tables e = omega (arith, values_le tables (object_count tables))
 
 module _ (x : Lent) {out : List ℕ} where
-  pub prepares_refused : (fault line : ℕ) → read x.text ≡ refused fault line → {out' : List ℕ} {size : ℕ}
-      → Printed (refusal_printed fault line) out size out' → Prepares x out (Refused size) x out'
-  prepares_refused fault line e {out'} {size} h =
-      record { by_reading = subst (λ (r : Reading). PreparesOn x out r (Refused size) x out') (sym e) (h, refl) }
+  pub prepares_refused : (fault line : ℕ) → read x.text ≡ refused fault line → {out' : List ℕ} {n : NotReady}
+      → Printed (refusal_printed fault line) out n.size out' → Prepares x out (Err n) x out'
+  prepares_refused fault line e {out'} {n} h =
+      record { by_reading = subst (λ (r : Reading). PreparesOn x out r (Err n) x out') (sym e) (h, refl) }
 
   -- The values started on are the first of those lent.
   pub prepares_ready : (tables : List ℕ) → read x.text ≡ accepted (library_of x.text tables) → values_most ≤ length x.values → {count : ℕ} → count ≡ value_count tables
       → {values state : List ℕ} → StartsOn (with_first count x) (lending x.text state values)
-      → Prepares x out (Ready count) (lending x.text state (values ++ drop count x.values)) out
+      → Prepares x out (Ok count) (lending x.text state (values ++ drop count x.values)) out
   prepares_ready tables e long {count} c {values} {state} h =
       let l = library_of x.text tables in
       let rest = drop count x.values in
@@ -64,4 +63,4 @@ module _ (x : Lent) {out : List ℕ} where
         };
         rest = drop_at values rest count all;
       } in
-      record { by_reading = subst (λ (r : Reading). PreparesOn x out r (Ready count) y out) (sym e) (ready, refl) }
+      record { by_reading = subst (λ (r : Reading). PreparesOn x out r (Ok count) y out) (sym e) (ready, refl) }

@@ -1,5 +1,5 @@
 -- Whatever parts the input comes in, all that a rehearsal writes is what the definition prints for the text and the whole input.
-use Rattle.std.specs.Prelude.{ℕ, ◌≤◌, ◌≡◌, refl, Bool, true, false, length, take, drop, ltb}
+use Rattle.std.specs.Prelude.{Ok, Err, ℕ, ◌≤◌, ◌≡◌, refl, Bool, true, false, length, take, drop, ltb}
 use Rattle.std.proofs.Common.{arith, sym, ap, ◌∙◌, take_all, take_at, length-take-le, ltb-true, ltb-false, lt-ltb}
 use mathlib.Core.List.{List, [], ◌∷◌, ◌++◌, flatten}
 use Rattle.model.specs.Read.{Reading, accepted, refused, read}
@@ -11,7 +11,7 @@ use Rattle.machine_words.specs.Calls.{Lent, lending}
 use Rattle.output.specs.Append.{Printed, over_fits}
 use Rattle.machine_refinement.specs.Refines.{fresh_rep}
 use Rattle.call_lines.specs.Lent.{on_lent}
-use Rattle.rehearsal.specs.declared.Prepared.TheVariants.{Refused, Ready}
+use Rattle.rehearsal.specs.declared.NotReady.{NotReady}
 use Rattle.rehearsal.specs.Parts as Parts
 use Rattle.rehearsal.specs.Parts.{fed, Fed, ended, whatever_the_parts}
 use Rattle.rehearsal.specs.OnWords.{lent_front_only, lent_prints}
@@ -55,17 +55,17 @@ printed_front : {run list list' : List ℕ} {size : ℕ} → Printed run list si
 printed_front {run} {list} {list'} {size} p h = ap (take size) (p.bytes ∙ over_fits run list h) ∙ take_at run (drop (length run) list) size (sym p.count)
 
 -- A refused text prints its line, whatever the calls.
-pub refused_prints : {x y : Lent} {out out' : List ℕ} {size : ℕ} → refusal_most ≤ length out → Prepares x out (Refused size) y out'
-    → (calls : List ℕ) → take size out' ≡ rehearsed x.text calls
+pub refused_prints : {x y : Lent} {out out' : List ℕ} {n : NotReady} → refusal_most ≤ length out → Prepares x out (Err n) y out'
+    → (calls : List ℕ) → take n.size out' ≡ rehearsed x.text calls
 unfolding rehearsed
-refused_prints {x} {y} {out} {out'} {size} long p calls = go (read x.text) p.by_reading
+refused_prints {x} {y} {out} {out'} {n} long p calls = go (read x.text) p.by_reading
   where
-    go : (r : Reading) → PreparesOn x out r (Refused size) y out' → take size out' ≡ rehearsed_on r calls
+    go : (r : Reading) → PreparesOn x out r (Err n) y out' → take n.size out' ≡ rehearsed_on r calls
     go (refused fault line) h = printed_front h.0 (omega (arith, refusal_few fault line))
     go (accepted l) h = absurd h
 
 -- What the lent machine prints from the start of a rehearsal on.
-pub ready_prints : {x y : Lent} {out out' : List ℕ} {count : ℕ} → Prepares x out (Ready count) y out'
+pub ready_prints : {x y : Lent} {out out' : List ℕ} {count : ℕ} → Prepares x out (Ok count) y out'
     → (calls : List ℕ) → printed_for on_lent (with_first count y) calls ≡ rehearsed x.text calls
 unfolding rehearsed
 ready_prints {x} {y} {out} {out'} {count} p calls = go (read x.text) p.by_reading
@@ -73,7 +73,7 @@ ready_prints {x} {y} {out} {out'} {count} p calls = go (read x.text) p.by_readin
     first : Lent
     first = with_first count y
 
-    go : (r : Reading) → PreparesOn x out r (Ready count) y out' → printed_for on_lent first calls ≡ rehearsed_on r calls
+    go : (r : Reading) → PreparesOn x out r (Ok count) y out' → printed_for on_lent first calls ≡ rehearsed_on r calls
     go (refused fault line) h = absurd h
     go (accepted l) h =
         let q = program l in
@@ -82,10 +82,10 @@ ready_prints {x} {y} {out} {out'} {count} p calls = go (read x.text) p.by_readin
 
 -- `prepare`, `feed` for each part, and `finish`, each on what the one before left: the parts that were read, and all that was written.
 pub data Rehearses (text : List ℕ) : List (List ℕ) → List ℕ → Type 0 where
-  refusal : {list words out out' : List ℕ} {y : Lent} {size : ℕ} {parts : List (List ℕ)} → refusal_most ≤ length out
-      → Prepares (lending text words list) out (Refused size) y out' → Rehearses text parts (take size out')
+  refusal : {list words out out' : List ℕ} {y : Lent} {n : NotReady} {parts : List (List ℕ)} → refusal_most ≤ length out
+      → Prepares (lending text words list) out (Err n) y out' → Rehearses text parts (take n.size out')
   play : {list words out out₁ line line' out₂ out₃ : List ℕ} {y z : Lent} {count kept size : ℕ} {parts outs : List (List ℕ)}
-      → Prepares (lending text words list) out (Ready count) y out₁
+      → Prepares (lending text words list) out (Ok count) y out₁
       → 61 ≤ length line → Played (with_first count y) line 0 parts outs z line' kept
       → end_most ≤ length out₂ → Finishes z line' kept out₂ size out₃
       → Rehearses text parts (flatten outs ++ take size out₃)

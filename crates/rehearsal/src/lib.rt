@@ -1,9 +1,11 @@
 // A rehearsal (02, Ticket 2) in fixed memory: the machine is started on a class text, the input is read part by part, each call
 // line is answered as its LF comes, and at the end the objects' lines are written. Whatever the parts, what is written in all is
 // what the definition prints for the whole input (specs/Whole.antt).
+// `text`, `state` and `values` are passed apart, as C lends them to the calls of `cishmolaq`; `line` and `kept` too, since `feed` and
+// `finish` promise something of every `kept`, also of one past the line's end (`Feeds`, `Finishes`).
 #![tactic(auto)]
 
-ghost use Rattle.std.specs.Prelude.{◌+◌, ◌*◌, ◌≤◌, min, ◌≡◌, length, take};
+ghost use Rattle.std.specs.Prelude.{◌+◌, ◌*◌, ◌≤◌, ◌≡◌, length, take};
 ghost use Rattle.layout.specs.Layout.{state_words, values_most};
 ghost use Rattle.model.specs.Rehearsal.{unended};
 ghost use Rattle.machine_words.specs.Calls.{lending};
@@ -11,18 +13,15 @@ ghost use Rattle.output.specs.Append.{Appended};
 ghost use Rattle.rehearsal.specs.Feeds.{widest, Keeps, Advances, FeedsAll, Feeds, Finishes};
 ghost use Rattle.rehearsal.specs.Ready.{StartsOn, Prepares};
 
-use reader::Verdict;
-
 const LINE_FEED: u8 = 10;
 
 // The most bytes that an answer's line has.
 pub const WIDEST: usize = 18;
 
-// The start of a rehearsal: of a refused text, the bytes written of the line that says so; else the text's number of values.
-#[derive(Clone, Copy)]
-pub enum Prepared {
-    Refused(usize),
-    Ready(usize),
+// A refused text, on which nothing is rehearsed: how many bytes of the line that says so are written.
+#[derive(Clone, Copy, Debug, PartialEq, Eq)]
+pub struct NotReady {
+    pub size: usize,
 }
 
 // How far a part is read: the bytes kept of the unfinished line, and the bytes written.
@@ -45,27 +44,33 @@ fn start_on(text: &[u8], values: &mut [u32], state: &mut [u32])
     requires { state_words ≤ length state.old }
     ensures { StartsOn (lending text.now state.old values.old) (lending text.now state.new values.new) }
 {
-    cishmolaq::starting_values(text, values);
-    cishmolaq::start(text, values, state);
+    // Neither is refused: the text is accepted, and the lists have the lengths that both ask for.
+    let _ = cishmolaq::starting_values(text, values);
+    let _ = cishmolaq::start(text, values, state);
 }
 
 // Starts a rehearsal: writes the line of a refused text, or else starts the machine on the text's starting values, which are then
-// the first of the lent values.
-pub fn prepare(text: &[u8], values: &mut [u32], state: &mut [u32], out: &mut [u8]) -> Prepared
+// the first of the lent values, and answers their number.
+pub fn prepare(
+    text: &[u8],
+    values: &mut [u32],
+    state: &mut [u32],
+    out: &mut [u8],
+) -> Result<usize, NotReady>
     requires { (values_most ≤ length values.old) × (state_words ≤ length state.old) }
     ensures { Prepares (lending text.now state.old values.old) out.old
         result (lending text.now state.new values.new) out.new }
 {
     let mut tables = [0u32; layout::TABLE_WORDS];
-    let verdict = reader::read_text(text, &mut tables);
-    match verdict {
-        Verdict::Refused(number, line) => {
-            Prepared::Refused(output::write_refusal(number, line as u32, out))
-        }
-        Verdict::Accepted => {
+    match reader::read_text(text, &mut tables) {
+        Ok(()) => {
             let count = image::value_count(&tables);
             start_on(text, &mut values[..count], state);
-            Prepared::Ready(count)
+            Ok(count)
+        }
+        Err(refused) => {
+            let size = output::write_refusal(refused.fault.number(), refused.line as u32, out);
+            Err(NotReady { size })
         }
     }
 }
@@ -123,21 +128,12 @@ fn feed_all(
 {
     let mut begun = kept;
     let mut size = 0;
-    let mut i = 0;
-    while i < part.len() {
-        let next = take_byte(text, state, values, line, begun, out, size, part[i]);
+    for byte in part {
+        let next = take_byte(text, state, values, line, begun, out, size, *byte);
         begun = next.kept;
         size = next.size;
-        i += 1;
     }
     Reach { kept: begun, size }
-}
-
-// The lesser of two numbers.
-fn least(a: usize, b: usize) -> usize
-    ensures { result ≡ min a b }
-{
-    if a <= b { a } else { b }
 }
 
 // Reads a part of the input, as much of it as there is room for an answer to each byte: answers its lines from the front of `out`
@@ -154,8 +150,8 @@ pub fn feed(
     ensures { Feeds (lending text.now state.old values.old) line.old kept part.now out.old result.read
         (lending text.now state.new values.new) line.new result.kept out.new result.size }
 {
-    let read = least(part.len(), out.len() / WIDEST);
-    let begun = least(kept, line.len());
+    let read = part.len().min(out.len() / WIDEST);
+    let begun = kept.min(line.len());
     let reach = feed_all(text, state, values, line, begun, &part[..read], out);
     Fed {
         read,
@@ -168,7 +164,7 @@ pub fn feed(
 fn put_unended(line: &[u8], kept: usize, out: &mut [u8]) -> usize
     ensures { Appended (unended (take kept line.now)) out.old 0 result out.new }
 {
-    if least(kept, line.len()) == 0 {
+    if kept.min(line.len()) == 0 {
         return 0;
     }
     output::put_bytes(out, 0, b"51\n")

@@ -1,12 +1,11 @@
 -- What the program's functions promise, from what their parts do.
-use Rattle.std.specs.Prelude.{ℕ, ◌+◌, ◌*◌, ◌≤◌, ◌≡◌, refl, length, take}
+use Rattle.std.specs.Prelude.{Ok, Err, ℕ, ◌+◌, ◌*◌, ◌≤◌, ◌≡◌, refl, length, take}
 use Rattle.std.proofs.Common.{arith, sym, ap, subst, ◌∙◌, inl, inr, length-append, length-take-le}
 use mathlib.Core.List.{List, [], ◌∷◌, ◌++◌, flatten}
 use Rattle.machine_words.specs.Calls.{Lent, lending}
-use Rattle.rehearsal.specs.declared.Prepared.{Prepared}
-use Rattle.rehearsal.specs.declared.Prepared.TheVariants.{Refused, Ready}
+use Rattle.rehearsal.specs.declared.NotReady.{NotReady}
 use Rattle.rehearsal.specs.Feeds.{widest, Feeds, end_most, Finishes}
-use Rattle.rehearsal.specs.Ready.{refusal_most, with_first, Prepares}
+use Rattle.rehearsal.specs.Ready.{refusal_most, with_first, Prepared, Prepares}
 use Rattle.rehearsal.specs.Whole.{none, played_then, refusal, play}
 use Rattle.rehearse_run.specs.Plays.{PlaysPart, ReadsOnce, turns_most, PlaysOn, PlaysAll, Plays, Rehearsed}
 
@@ -64,17 +63,17 @@ plays {x} {y} {line} {line'} {room} {out} {kept} long all wide f e = record {
 }
 
 module _ {text list words out : List ℕ} {y : Lent} {out₁ : List ℕ} {r : Prepared} (p : Prepares (lending text words list) out r y out₁) where
-  pub refused_rehearsed : {size last : ℕ} → r ≡ Refused size → refusal_most ≤ length out → size ≤ length out₁ → last ≡ size → Rehearsed text last
-  refused_rehearsed {size} e long fits q = record {
+  pub refused_rehearsed : {n : NotReady} {last : ℕ} → r ≡ Err n → refusal_most ≤ length out → n.size ≤ length out₁ → last ≡ n.size → Rehearsed text last
+  refused_rehearsed {n} e long fits q = record {
     parts = [] ∷ [];
     answers = [];
-    lines = take size out₁;
+    lines = take n.size out₁;
     rehearses = refusal long (subst (λ (t : Prepared). Prepares (lending text words list) out t y out₁) e p);
     ended = inl ([], refl);
-    count = q ∙ sym (length-take-le size out₁ fits);
+    count = q ∙ sym (length-take-le n.size out₁ fits);
   }
 
-  pub played_rehearsed : {count : ℕ} → r ≡ Ready count → {z : Lent} {out₂ : List ℕ} {last : ℕ} → Plays (with_first count y) z out₂ last → last ≤ length out₂ → Rehearsed text last
+  pub played_rehearsed : {count : ℕ} → r ≡ Ok count → {z : Lent} {out₂ : List ℕ} {last : ℕ} → Plays (with_first count y) z out₂ last → last ≤ length out₂ → Rehearsed text last
   played_rehearsed {count} e {z} {out₂} {last} a fits = record {
     parts = a.all.parts;
     answers = flatten a.all.outs;

@@ -1,6 +1,7 @@
 // The program `rehearse` (02, Ticket 2), as a library: reads the class text `lib.txt` and the call lines on standard input, and
 // writes their answers to standard output. Each part of the input is answered before more is waited for. No contract speaks of
 // files: of whatever was read, each byte is answered once and in order, and as much is written out as its answers have.
+// What is lent, the line and the bytes kept of it are passed apart, as `rehearsal::feed` takes them.
 #![tactic(auto)]
 
 ghost use Rattle.std.specs.Prelude.{◌*◌, ◌≤◌, ◌≡◌, length};
@@ -9,7 +10,6 @@ ghost use Rattle.rehearsal.specs.Feeds.{widest};
 ghost use Rattle.streams.specs.Counts.{IsPrefixLen};
 ghost use Rattle.rehearse_run.specs.Plays.{PlaysPart, ReadsOnce, PlaysAll, Plays, Rehearsed, Runs};
 
-use rehearsal::Prepared;
 use std::fs;
 use std::rt::Files;
 
@@ -33,14 +33,12 @@ struct Turn {
     written: usize,
 }
 
-// Writes out the first bytes of the lines, and answers how many. A write that fails is let go.
-fn print_front(rt: &impl Print, lines: &[u8], size: usize) -> usize
-    requires { size ≤ length lines.now }
-    ensures { result ≡ size }
+// Writes out lines, and answers how many bytes they have. A write that fails is let go.
+fn print_lines(rt: &impl Print, lines: &[u8]) -> usize
+    ensures { result ≡ length lines.now }
 {
-    let front = &lines[..size];
-    let _ = rt.write_all(front);
-    front.len()
+    let _ = rt.write_all(lines);
+    lines.len()
 }
 
 // Reads the class text, as much of it as there is room for, and answers its length: 0 where it can't be opened or read.
@@ -69,7 +67,7 @@ fn play_part(
         (lending text.now state.new values.new) line.new out.new result.read result.kept result.written }
 {
     let fed = rehearsal::feed(text, state, values, line, kept, part, out);
-    let written = print_front(rt, out, fed.size);
+    let written = print_lines(rt, &out[..fed.size]);
     Turn {
         read: fed.read,
         kept: fed.kept,
@@ -96,8 +94,8 @@ fn read_once(
     play_part(rt, text, state, values, line, kept, &part[..size], out)
 }
 
-// Reads to the end of the input. A proved loop ends, and nothing says that the input does: the turns are counted down from a
-// number that no run uses up.
+// Reads to the end of the input. A proved loop ends, and nothing says that the input does: the turns are counted up to a
+// number that no run reaches.
 fn play_all(
     rt: &(impl Input + Print),
     text: &[u8],
@@ -110,14 +108,12 @@ fn play_all(
     ensures { PlaysAll (lending text.now state.old values.old) line.old (lending text.now state.new values.new) line.new result }
 {
     let mut kept = 0;
-    let mut turns = u64::MAX;
-    while turns > 0 {
+    for _turn in 0..u64::MAX {
         let next = read_once(rt, text, state, values, line, kept, out);
         kept = next.kept;
         if next.read == 0 {
             return kept;
         }
-        turns -= 1;
     }
     kept
 }
@@ -136,7 +132,7 @@ fn play(
     let mut line = [0u8; LINE];
     let kept = play_all(rt, text, state, values, &mut line, out);
     let size = rehearsal::finish(text, state, values, &line, kept, out);
-    print_front(rt, out, size)
+    print_lines(rt, &out[..size])
 }
 
 // Rehearses on a text: writes out the line of a refused one, or plays the input. Answers how many bytes were written out last.
@@ -148,8 +144,8 @@ fn rehearse(rt: &(impl Input + Print), text: &[u8]) -> usize
     let mut out = [0u8; ROOM];
     let prepared = rehearsal::prepare(text, &mut values, &mut state, &mut out);
     match prepared {
-        Prepared::Refused(size) => print_front(rt, &out, size),
-        Prepared::Ready(count) => play(rt, text, &mut state, &mut values[..count], &mut out),
+        Err(refused) => print_lines(rt, &out[..refused.size]),
+        Ok(count) => play(rt, text, &mut state, &mut values[..count], &mut out),
     }
 }
 

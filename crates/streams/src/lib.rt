@@ -1,7 +1,8 @@
-// Reading in fixed memory: a read that fails counts as the end of what is read.
+// Reading in fixed memory: a read that fails counts as the end of what is read. And the part of a list that a call has filled.
 #![tactic(auto)]
 
-ghost use Rattle.streams.specs.Counts.{IsPrefixLen};
+ghost use Rattle.std.specs.Prelude.{◌≡◌};
+ghost use Rattle.streams.specs.Counts.{IsPrefixLen, front};
 
 use std::io::Read;
 
@@ -9,10 +10,7 @@ use std::io::Read;
 pub fn read_once(input: &mut impl Read, part: &mut [u8]) -> usize
     ensures { IsPrefixLen result part.new }
 {
-    match input.read(part) {
-        Ok(size) => size,
-        Err(_) => 0,
-    }
+    input.read(part).unwrap_or(0)
 }
 
 // Reads until the list is full, the input ends or a read fails, and answers how many bytes it put at the list's start.
@@ -20,6 +18,7 @@ pub fn read_full(input: &mut impl Read, list: &mut [u8]) -> usize
     ensures { IsPrefixLen result list.new }
 {
     let mut done = 0;
+    // A loop over a range would fix the places ahead, but how far a read goes is known after it.
     while done < list.len() {
         let size = read_once(input, &mut list[done..]);
         if size == 0 {
@@ -28,4 +27,14 @@ pub fn read_full(input: &mut impl Read, list: &mut [u8]) -> usize
         done += size;
     }
     done
+}
+
+// The bytes at the list's front that a call has written, by its answer; none where it is refused.
+pub fn filled<E: Copy>(list: &[u8], answer: Result<usize, E>) -> &[u8]
+    ensures { result.now ≡ front list.now answer }
+{
+    match answer {
+        Ok(size) => &list[..size.min(list.len())],
+        Err(_) => &list[..0],
+    }
 }

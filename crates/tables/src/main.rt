@@ -1,22 +1,11 @@
 // Prints the access vectors and commuting methods of the class text on standard input (01, "What `tables` prints").
 #![tactic(auto)]
 
-// Writes out the first bytes of the lines. A write that fails is let go.
-fn print_front(rt: &impl Print, lines: &[u8], size: usize) {
-    if size <= lines.len() {
-        let start = 0;
-        let _ = rt.write_all(&lines[start..size]);
-    }
-}
-
-// Prints the lines of the text; there is room for those of every text.
+// Prints the lines of the text; there is room for those of every text. A write that fails is let go.
 fn print_text(rt: &impl Print, text: &[u8]) {
     let mut lines = [0u8; 66560];
     let answer = cishmolaq::print_tables(text, &mut lines);
-    match answer {
-        cishmolaq::Answer::Done(size) => print_front(rt, &lines, size),
-        cishmolaq::Answer::Refused(_, _) => {}
-    }
+    let _ = rt.write_all(streams::filled(&lines, answer));
 }
 
 fn main(rt: HostRuntime) {

@@ -1,6 +1,6 @@
 -- Numbers as a loop over digits computes them: one more digit, a number that has grown too large, and the answer for a whole word.
 use Prim.Native.Nat.{ℕ, ◌+◌, ◌-◌, ◌*◌, ◌≤◌, ◌<◌}
-use mathlib.Core.Path.{◌≡◌, refl}
+use mathlib.Core.Path.{◌≡◌, refl, sym, ap, subst, ◌∙◌}
 use mathlib.Core.Bool.{true, false, not, ◌&&◌}
 use mathlib.Core.Option.{none, some}
 use mathlib.Core.List.{List, [], ◌∷◌}
@@ -58,3 +58,14 @@ module _ (w : List ℕ) where
 
 pub digit_range : (b : ℕ) → is_digit b ≡ true → (48 ≤ b) × (b ≤ 57)
 digit_range b e = let t = and_true (leb 48 b) e in (leb-true 48 b t.0, leb-true b 57 t.1)
+
+-- A turn of a loop that has read the digits before place i, whose value is n, and reads the one there.
+module _ (n : ℕ) (w : List ℕ) (i : ℕ) (value : decimal n (drop i w) ≡ decimal 0 w) (within : i < length w) where
+  pub read_on : (m : ℕ) → m ≡ 10 * n + get_or w i 0 - 48 → decimal m (drop (i + 1) w) ≡ decimal 0 w
+  read_on m e = ap (λ (k : ℕ). decimal k (drop (i + 1) w)) e ∙ sym (decimal_more n w i within) ∙ value
+
+  -- A digit too many for 32 bits.
+  pub overflow : 4294967295 < 10 * n + get_or w i 0 - 48 → number_of w ≡ none
+  overflow h =
+      let e = read_on (10 * n + get_or w i 0 - 48) refl in
+      too_large w (subst (λ (k : ℕ). 4294967295 < k) e (decimal_large (10 * n + get_or w i 0 - 48) (drop (i + 1) w) h))

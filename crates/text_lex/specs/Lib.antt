@@ -3,3 +3,4 @@ pub mod Among
 pub mod Scan
 pub mod Piece
 pub mod Number
+pub mod Words

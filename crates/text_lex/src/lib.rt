@@ -8,30 +8,23 @@ ghost use Rattle.model.specs.Word.{is_letter, is_digit, is_name_byte, is_reserve
 ghost use Rattle.text_lex.specs.Scan.{is_byte, before};
 ghost use Rattle.text_lex.specs.Piece.{pieces_after, words_after, first, end_after};
 ghost use Rattle.text_lex.specs.Number.{number_of, said};
+ghost use Rattle.text_lex.specs.Words.{left};
+ghost use Rattle.std.specs.Iterator.{YieldsFirstRef, item_count};
 
 const SPACE: u8 = 32;
 
 const LINE_FEED: u8 = 10;
 
-// The value of a word that is a number.
-#[derive(Drop)]
-pub enum Number {
-    Value(u32),
-    NoNumber,
-}
-
 // Where the piece that begins at `at` ends: at the next divider, or at the end; `at` itself past the end.
 pub fn piece_end(text: &[u8], at: usize, divider: u8) -> usize
     ensures { result ≡ at + before (is_byte divider) (drop at text.now) }
 {
-    let mut i = at;
-    while i < text.len() {
+    for i in at..text.len() {
         if text[i] == divider {
             return i;
         }
-        i += 1;
     }
-    i
+    at.max(text.len())
 }
 
 // Where the word that begins at `at` ends.
@@ -86,57 +79,74 @@ pub fn word_after(line: &[u8], at: usize) -> &[u8]
     piece_after(line, at, SPACE)
 }
 
+// The words of a line that are still to come: those after the space at `at`.
+#[derive(Clone, Copy)]
+pub struct Words<'a> {
+    line: &'a [u8],
+    at: usize,
+}
+
+impl<'a> Iterator for Words<'a> {
+    type Item = &'a [u8];
+
+    ghost next_gives = { YieldsFirstRef left };
+
+    ghost remaining = { item_count left };
+
+    fn next(&mut self) -> Option<&'a [u8]> {
+        if self.line.len() <= self.at {
+            return None;
+        }
+        let word = word_after(self.line, self.at);
+        self.at = word_end_after(self.line, self.at);
+        Some(word)
+    }
+}
+
+// The words after the space at `at`.
+pub fn words_after(line: &[u8], at: usize) -> Words<'_>
+    ensures { left result ≡ words_after (drop at line.now) }
+{
+    Words { line, at }
+}
+
 // Whether two pieces hold the same bytes.
+#[tactic(auto, using(crate::proofs::ListLaws::same_pointwise))]
 pub fn same(a: &[u8], b: &[u8]) -> bool
     ensures { result ≡ same a.now b.now }
 {
-    if a.len() != b.len() {
-        return false;
-    }
-    let mut i = 0;
-    while i < a.len() {
-        if a[i] != b[i] {
-            return false;
-        }
-        i += 1;
-    }
-    true
+    a == b
 }
 
 // Whether the byte is one of a–z.
 fn is_letter(byte: u8) -> bool
     ensures { result ≡ is_letter byte }
 {
-    (97 <= byte) & (byte <= 122)
+    byte.is_ascii_lowercase()
 }
 
 // Whether the byte is one of 0–9.
 fn is_digit(byte: u8) -> bool
     ensures { result ≡ is_digit byte }
 {
-    (48 <= byte) & (byte <= 57)
+    byte.is_ascii_digit()
 }
 
 // Whether the byte may stand in a name.
 fn is_name_byte(byte: u8) -> bool
     ensures { result ≡ is_name_byte byte }
 {
-    if is_letter(byte) {
-        return true;
-    }
-    is_digit(byte) | (byte == 95)
+    is_letter(byte) || is_digit(byte) || byte == b'_'
 }
 
-// Whether each byte of the word from `from` on may stand in a name.
-fn all_name_bytes(word: &[u8], from: usize) -> bool
-    ensures { result ≡ every is_name_byte (drop from word.now) }
+// Whether each byte may stand in a name.
+fn all_name_bytes(bytes: &[u8]) -> bool
+    ensures { result ≡ every is_name_byte bytes.now }
 {
-    let mut i = from;
-    while i < word.len() {
-        if !is_name_byte(word[i]) {
+    for byte in bytes {
+        if !is_name_byte(*byte) {
             return false;
         }
-        i += 1;
     }
     true
 }
@@ -170,10 +180,9 @@ fn is_reserved(word: &[u8]) -> bool
 fn begins_with_letter(word: &[u8]) -> bool
     ensures { result ≡ begins_with_letter word.now }
 {
-    if 0 < word.len() {
-        is_letter(word[0])
-    } else {
-        false
+    match word {
+        [first, ..] => is_letter(*first),
+        [] => false,
     }
 }
 
@@ -182,58 +191,43 @@ pub fn is_name(word: &[u8]) -> bool
     ensures { result ≡ is_name word.now }
 {
     if begins_with_letter(word) & (word.len() <= 16) {
-        all_name_bytes(word, 1) & !is_reserved(word)
+        all_name_bytes(word) & !is_reserved(word)
     } else {
         false
     }
-}
-
-// The byte as a 64-bit number.
-fn wide(byte: u8) -> u64
-    ensures { result ≡ byte }
-{
-    byte as u64
 }
 
 // Whether the word is not empty, and begins with a zero only if that is its only byte.
 fn well_begun(word: &[u8]) -> bool
     ensures { result ≡ well_begun word.now }
 {
-    if word.len() < 2 {
-        return word.len() == 1;
+    match word {
+        [] => false,
+        [_] => true,
+        [first, ..] => *first != b'0',
     }
-    word[0] != 48
 }
 
-// The value of the word, or none where it is no number.
-pub fn number_of(word: &[u8]) -> Number
+// The value of the word; None where it is no number.
+pub fn number_of(word: &[u8]) -> Option<u32>
     ensures { said result ≡ number_of word.now }
 {
     if !well_begun(word) {
-        return Number::NoNumber;
+        return None;
     }
-    let mut n: u64 = 0;
-    let mut i = 0;
-    while i < word.len() {
-        if !is_digit(word[i]) {
-            return Number::NoNumber;
+    let mut n: u32 = 0;
+    for byte in word {
+        if !is_digit(*byte) {
+            return None;
         }
-        n = 10 * n + wide(word[i]) - 48;
-        if 4294967295 < n {
-            return Number::NoNumber;
-        }
-        i += 1;
+        n = n.checked_mul(10)?.checked_add(u32::from(*byte - b'0'))?;
     }
-    Number::Value(n as u32)
+    Some(n)
 }
 
 // Whether the word is a number.
 pub fn is_number(word: &[u8]) -> bool
     ensures { result ≡ is_number word.now }
 {
-    let number = number_of(word);
-    match number {
-        Number::Value(_) => true,
-        Number::NoNumber => false,
-    }
+    number_of(word).is_some()
 }

@@ -12,6 +12,7 @@ use Rattle.model.specs.Word.{is_letter, is_digit, is_reserved, reserved, is_name
 use Rattle.model.specs.Expression.{Token, operator, leaf, neither, plus, minus, times, less, equal, number, field, argument, got, token_of}
 use Rattle.text_lex.specs.Tests.{and_false, and_true}
 use Rattle.text_lex.specs.Among.{by_length}
+use Rattle.std.specs.Prelude.{Option}
 use Rattle.text_syntax.specs.declared.token.Token.{Token as Answer}
 use Rattle.text_syntax.specs.Tokens.{said_token, named_or, numeral}
 
@@ -120,7 +121,7 @@ unfolding token_of
 empty [] h = refl
 empty (b ∷ w) h = absurd (omega arith)
 
-pub one_byte : (w : List ℕ) (t : Answer) → length w ≡ 1 → said_token (get_or w 0 0 ∷ []) t ≡ token_of (get_or w 0 0 ∷ []) → said_token w t ≡ token_of w
+pub one_byte : (w : List ℕ) (t : Option Answer) → length w ≡ 1 → said_token (get_or w 0 0 ∷ []) t ≡ token_of (get_or w 0 0 ∷ []) → said_token w t ≡ token_of w
 one_byte [] t h e = absurd (omega arith)
 one_byte (b ∷ []) t h e = e
 one_byte (b ∷ c ∷ w) t h e = absurd (omega arith)

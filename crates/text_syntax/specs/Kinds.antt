@@ -2,6 +2,8 @@
 -- word and the others; a missing word counts as empty.
 use Rattle.std.specs.Prelude.{ℕ, ◌+◌, ◌≡◌, refl, Bool, true, false, not, cond, ◌&&◌, ◌||◌, List, [], ◌∷◌, take, drop}
 use Rattle.std.proofs.Common.{sym, ap, ◌∙◌}
+use Rattle.std.specs.Prelude as rust
+use Rattle.std.specs.Prelude.{Some, None}
 use Rattle.std.proofs.Math.Option.{Option, none, some}
 use Rattle.model.specs.Base.{bytes, same, every}
 use Rattle.model.specs.Text.{pieces, words}
@@ -14,7 +16,7 @@ use Rattle.text_lex.specs.Tests.{and_false}
 use Rattle.text_lex.specs.Scan.{is_byte, before}
 use Rattle.text_lex.specs.Piece.{words_after, first, others, is_empty, first_piece}
 use Rattle.text_syntax.specs.declared.form.Kind.{Kind}
-use Rattle.text_syntax.specs.declared.form.Kind.TheVariants.{Class, Field, Method, Statement, End, Object, Malformed}
+use Rattle.text_syntax.specs.declared.form.Kind.TheVariants.{Class, Field, Method, Statement, End, Object}
 
 abbrev pub kind_of : Form → ℕ
 kind_of (class_line n ps) = 0
@@ -25,14 +27,14 @@ kind_of end_line = 4
 kind_of (object_line n c vs) = 5
 kind_of malformed = 6
 
-abbrev pub said : Kind → ℕ
-said Class = 0
-said Field = 1
-said Method = 2
-said Statement = 3
-said End = 4
-said Object = 5
-said Malformed = 6
+abbrev pub said : rust.Option Kind → ℕ
+said (Some Class) = 0
+said (Some Field) = 1
+said (Some Method) = 2
+said (Some Statement) = 3
+said (Some End) = 4
+said (Some Object) = 5
+said None = 6
 
 abbrev pub is_action : Option Action → Bool
 is_action none = false
@@ -42,11 +44,6 @@ is_action (some a) = true
 abbrev pub is_whole : Parsed → Bool
 is_whole (parsed e ws) = is_empty ws
 is_whole unread = false
-
--- Whether a word is of the sort in a list: starting values are numbers, parents are names.
-abbrev pub is_sort : Bool → List ℕ → Bool
-is_sort true = is_number
-is_sort false = is_name
 
 unfoldable pub is_named : List (List ℕ) → Bool
 unfolding is_name
@@ -221,3 +218,8 @@ pub kind_line : (s : List ℕ) (e : ℕ) → e ≡ 0 + before (is_byte 32) s
     → kind_of (form_of (words s)) ≡ cond (fits (keyword_of (take e s)) (words_after (drop e s))) (kind_by (keyword_of (take e s))) 6
 unfolding form_of
 kind_line s e h = rw (first_piece 32 s e h) (kind_as (keyword_of (take e s)) (words_after (drop e s)))
+
+-- A line whose first word is no keyword is malformed.
+pub no_kind : (s : List ℕ) (e : ℕ) → e ≡ 0 + before (is_byte 32) s → other_word ≡ keyword_of (take e s) → 6 ≡ kind_of (form_of (words s))
+unfolding fits
+no_kind s e h k = sym (kind_line s e h ∙ ap (λ (w : Keyword). cond (fits w (words_after (drop e s))) (kind_by w) 6) (sym k))

@@ -1,8 +1,10 @@
 -- Which kind of line may stand in which place, and the place after it, as a table; and the first pass over the lines of a text
 -- from a given line on.
-use Prim.Native.Nat.{ℕ, ◌+◌, ◌-◌, ◌≤◌, ◌<◌, min}
+use Prim.Native.Nat.{ℕ, zero, suc, ◌+◌, ◌-◌, ◌≤◌, ◌<◌, min}
+use Rattle.std.specs.Prelude as rust
+use Rattle.std.specs.Prelude.{Some, None}
 use Rattle.std.specs.Prelude.{◌≡◌, refl, Bool, true, false, cond, ◌&&◌, ◌||◌, List, [], ◌∷◌, drop, get_or, eqb, ltb}
-use Rattle.std.proofs.Common.{sym, ◌∙◌, arith, lt-ltb, le-ltb, ltb-true, ltb-false}
+use Rattle.std.proofs.Common.{sym, subst, ◌∙◌, arith, lt-ltb, le-ltb, ltb-true, ltb-false}
 use Rattle.std.proofs.Math.Path.{ap}
 use Rattle.std.proofs.Math.ListN.{length, take, length-take, length-drop}
 use Rattle.model.specs.Text.{pieces, words}
@@ -11,79 +13,78 @@ use Rattle.model.specs.Form.{Place, at_start, among_fields, within_body, among_m
 use Rattle.text_lex.specs.Scan.{is_byte, before}
 use Rattle.text_lex.specs.Piece.{is_empty, pieces_step, piece_at, none_after, pieces_after_law}
 use Rattle.text_syntax.specs.Kinds.{kind_of}
+use Rattle.text_syntax.specs.declared.place.Place.{Place as CodePlace}
+use Rattle.text_syntax.specs.declared.place.Place.TheVariants.{Start, Fields, Body, Methods, Objects}
 
--- A row for each place, and in it for each kind the place after such a line, or 5 where it may not stand.
-abbrev pub next_places : List (List ℕ)
-next_places =
-    (1 ∷ 5 ∷ 5 ∷ 5 ∷ 5 ∷ 4 ∷ 5 ∷ [])
-    ∷ (1 ∷ 1 ∷ 2 ∷ 5 ∷ 5 ∷ 4 ∷ 5 ∷ [])
-    ∷ (5 ∷ 5 ∷ 5 ∷ 2 ∷ 3 ∷ 5 ∷ 5 ∷ [])
-    ∷ (1 ∷ 5 ∷ 2 ∷ 5 ∷ 5 ∷ 4 ∷ 5 ∷ [])
-    ∷ (5 ∷ 5 ∷ 5 ∷ 5 ∷ 5 ∷ 4 ∷ 5 ∷ [])
-    ∷ []
+abbrev pub said_place : CodePlace → Place
+said_place Start = at_start
+said_place Fields = among_fields
+said_place Body = within_body
+said_place Methods = among_methods
+said_place Objects = among_objects
 
-unfoldable pub next_place : ℕ → ℕ → ℕ
-next_place place kind = cond (ltb place 5 && ltb kind 7) (get_or (get_or next_places place []) kind 0) 5
+-- The row of a place: for each kind the place after such a line, or None where it may not stand.
+abbrev pub row : CodePlace → List (rust.Option CodePlace)
+row Start = Some Fields ∷ None ∷ None ∷ None ∷ None ∷ Some Objects ∷ []
+row Fields = Some Fields ∷ Some Fields ∷ Some Body ∷ None ∷ None ∷ Some Objects ∷ []
+row Body = None ∷ None ∷ None ∷ Some Body ∷ Some Methods ∷ None ∷ []
+row Methods = Some Fields ∷ None ∷ Some Body ∷ None ∷ None ∷ Some Objects ∷ []
+row Objects = None ∷ None ∷ None ∷ None ∷ None ∷ Some Objects ∷ []
 
--- An entry of the table, and a place or kind that it does not have.
-module _ (place kind : ℕ) where
-  pub next_within : (ltb place 5 && ltb kind 7) ≡ true → get_or (get_or next_places place []) kind 0 ≡ next_place place kind
-  unfolding next_place
-  next_within h = rw h
+-- The place after a line of a kind, given by its number; None past the last kind.
+abbrev pub next_place : CodePlace → ℕ → rust.Option CodePlace
+next_place p kind = get_or (row p) kind None
 
-  pub next_outside : (ltb place 5 && ltb kind 7) ≡ false → 5 ≡ next_place place kind
-  unfolding next_place
-  next_outside h = rw h
+-- The entry says what the model's rule says of a form in a place.
+abbrev pub Follows : rust.Option CodePlace → Form → Place → Type 0
+Follows None f p = may_stand f p ≡ false
+Follows (Some q) f p = (may_stand f p ≡ true) × (said_place q ≡ place_after f)
 
-abbrev Row : Form → Place → Type 0
-Row f p = next_place (place_number p) (kind_of f) ≡ cond (may_stand f p) (place_number (place_after f)) 5
-
-rows : (f : Form) → Row f at_start × Row f among_fields × Row f within_body × Row f among_methods × Row f among_objects
-unfolding next_place may_stand
-rows (class_line n ps) = (refl, refl, refl, refl, refl)
-rows (field_line n) = (refl, refl, refl, refl, refl)
-rows (method_line n) = (refl, refl, refl, refl, refl)
-rows (statement_line s) = (refl, refl, refl, refl, refl)
-rows end_line = (refl, refl, refl, refl, refl)
-rows (object_line n c vs) = (refl, refl, refl, refl, refl)
+rows : (f : Form)
+    → Follows (next_place Start (kind_of f)) f at_start × Follows (next_place Fields (kind_of f)) f among_fields
+    × Follows (next_place Body (kind_of f)) f within_body × Follows (next_place Methods (kind_of f)) f among_methods
+    × Follows (next_place Objects (kind_of f)) f among_objects
+unfolding may_stand
+rows (class_line n ps) = ((refl, refl), (refl, refl), refl, (refl, refl), refl)
+rows (field_line n) = (refl, (refl, refl), refl, refl, refl)
+rows (method_line n) = (refl, (refl, refl), refl, (refl, refl), refl)
+rows (statement_line s) = (refl, refl, (refl, refl), refl, refl)
+rows end_line = (refl, refl, (refl, refl), refl, refl)
+rows (object_line n c vs) = ((refl, refl), (refl, refl), refl, (refl, refl), (refl, refl))
 rows malformed = (refl, refl, refl, refl, refl)
 
-next_place_law : (f : Form) (p : Place) → next_place (place_number p) (kind_of f) ≡ cond (may_stand f p) (place_number (place_after f)) 5
-next_place_law f at_start = (rows f).0
-next_place_law f among_fields = (rows f).1
-next_place_law f within_body = (rows f).2
-next_place_law f among_methods = (rows f).3
-next_place_law f among_objects = (rows f).4
+follows_at : (f : Form) (p : CodePlace) → Follows (next_place p (kind_of f)) f (said_place p)
+follows_at f Start = (rows f).0
+follows_at f Fields = (rows f).1
+follows_at f Body = (rows f).2
+follows_at f Methods = (rows f).3
+follows_at f Objects = (rows f).4
 
--- The table is the model's rule.
-pub next_of : (f : Form) (p : Place) (place kind : ℕ) → place ≡ place_number p → kind ≡ kind_of f
-    → next_place place kind ≡ cond (may_stand f p) (place_number (place_after f)) 5
-next_of f p place kind q k = (λ i. next_place (q i) (k i)) ∙ next_place_law f p
+-- The same for an entry found by the number of a kind.
+pub follows : (f : Form) (p : CodePlace) (kind : ℕ) (r : rust.Option CodePlace) → r ≡ next_place p kind → kind ≡ kind_of f → Follows r f (said_place p)
+follows f p kind r e k =
+    subst (λ (q : rust.Option CodePlace). Follows q f (said_place p)) (sym (e ∙ ap (next_place p) k)) (follows_at f p)
 
-place_below : (p : Place) → place_number p < 5
-place_below at_start = omega arith
-place_below among_fields = omega arith
-place_below within_body = omega arith
-place_below among_methods = omega arith
-place_below among_objects = omega arith
+-- A line's number, or None where it is 0.
+abbrev pub line_in : ℕ → rust.Option ℕ
+line_in zero = None
+line_in (suc n) = Some (suc n)
 
-module _ (p : Place) where
-  pub stops : (t : Bool) → cond t (place_number p) 5 ≡ 5 → t ≡ false
-  stops true e = absurd (omega (arith, place_below p))
-  stops false e = refl
-
-  pub goes_on : (t : Bool) → (cond t (place_number p) 5 ≡ 5 → ⊥) → t ≡ true
-  goes_on true e = refl
-  goes_on false e = absurd (e refl)
+pub line_some : (n : ℕ) → 1 ≤ n → Some n ≡ line_in n
+line_some zero h = absurd (omega arith)
+line_some (suc n) h = refl
 
 -- The first pass over the rest of a text, whose next line is line n and begins at `at`.
 unfoldable pub pass_from : ℕ → Place → List ℕ → ℕ → ℕ
 unfolding first_misplaced lines_from rest_of pieces
 pass_from n p s at = first_misplaced n p (lines_from at (pieces 10 (drop at s))) (rest_of (pieces 10 (drop at s)))
 
--- The result at the end of a text: n where a line without LF is left or an `end` is missing, else 0.
-unfoldable pub at_end : ℕ → ℕ → Bool → ℕ
-at_end n place left = cond (left || eqb place 2) n 0
+-- At the end of a text a line without LF is left, or an `end` is missing.
+abbrev pub is_unfinished : Place → Bool → Bool
+is_unfinished p left = left || eqb (place_number p) 2
+
+abbrev pub at_end : ℕ → Place → Bool → ℕ
+at_end n p left = cond (is_unfinished p left) n 0
 
 line_step : (n : ℕ) (p : Place) (at : ℕ) (l : List ℕ) (ps : List (List ℕ)) → is_empty ps ≡ false
     → first_misplaced n p (lines_from at (l ∷ ps)) (rest_of (l ∷ ps))
@@ -92,8 +93,8 @@ unfolding first_misplaced lines_from rest_of
 line_step n p at l [] h = let z : ◌≡◌ {A = Bool} true false = h in cc
 line_step n p at l (m ∷ ms) h = refl
 
-end_step : (n : ℕ) (p : Place) (l : List ℕ) → first_misplaced n p [] l ≡ at_end n (place_number p) (ltb 0 (length l))
-unfolding first_misplaced at_end
+end_step : (n : ℕ) (p : Place) (l : List ℕ) → first_misplaced n p [] l ≡ at_end n p (ltb 0 (length l))
+unfolding first_misplaced
 end_step n p [] = refl
 end_step n p (b ∷ l) = rw (lt-ltb 0 (length (b ∷ l)) (omega arith))
 
@@ -117,11 +118,11 @@ module _ (n : ℕ) (p : Place) (s : List ℕ) (at e : ℕ) (h : e ≡ at + befor
   pass_more k m = pass_line k ∙ ap (λ (t : Bool). cond t (pass_from (n + 1) (place_after line) s (e + 1)) n) m
 
   -- No line is left.
-  pub pass_end : length s ≤ e → pass_from n p s at ≡ at_end n (place_number p) (ltb at (length s))
+  pub pass_end : length s ≤ e → pass_from n p s at ≡ at_end n p (ltb at (length s))
   unfolding pass_from lines_from rest_of
   pass_end k =
       rw (piece_at 10 s at e h, none_after 10 s e k)
-      (end_step n p (take (e - at) (drop at s)) ∙ ap (at_end n (place_number p)) (go (ltb at (length s)) refl))
+      (end_step n p (take (e - at) (drop at s)) ∙ ap (at_end n p) (go (ltb at (length s)) refl))
     where
       size : length (take (e - at) (drop at s)) ≡ min (e - at) (length s - at)
       size = length-take (e - at) (drop at s) ∙ ap (min (e - at)) (length-drop at s)

@@ -1,6 +1,6 @@
 -- Where an expression ends in its line, and that the words left by a reading are those after that place.
 use Prim.Native.Nat.{ℕ, zero, suc, ◌+◌, ◌-◌, ◌≤◌, ◌<◌}
-use Rattle.std.specs.Prelude.{◌≡◌, Bool, List, length, take, drop}
+use Rattle.std.specs.Prelude.{Option, Some, None, ◌≡◌, Bool, List, length, take, drop}
 use Rattle.std.proofs.Math.Path.{refl}
 use Rattle.std.proofs.Common.{sym, ap, subst, ◌∙◌, length-take, length-drop, take_all}
 use Rattle.std.proofs.Math.Bool.{true, false}
@@ -14,20 +14,18 @@ use Rattle.text_lex.specs.Piece.{words_after, span, pieces_step, first_piece, no
 use Rattle.text_syntax.specs.declared.token.Operator.{Operator as OperatorAnswer}
 use Rattle.text_syntax.specs.declared.token.Leaf.{Leaf as LeafAnswer}
 use Rattle.text_syntax.specs.declared.token.Token.{Token as TokenAnswer}
-use Rattle.text_syntax.specs.declared.token.Token.TheVariants.{Sign, Single, Neither}
+use Rattle.text_syntax.specs.declared.token.Token.TheVariants.{Sign, Single}
 use Rattle.text_syntax.specs.Tokens.{said_operator, said_token}
-use Rattle.text_syntax.specs.declared.expression.Behind.{Behind}
-use Rattle.text_syntax.specs.declared.expression.Behind.TheVariants.{Rest, Nowhere}
 
 -- The place in s after what was read: the end of its last word.
-abbrev pub placed : List ℕ → Parsed → Behind
-placed s (parsed e ws) = Rest (length s - span ws)
-placed s unread = Nowhere
+abbrev pub placed : List ℕ → Parsed → Option ℕ
+placed s (parsed e ws) = Some (length s - span ws)
+placed s unread = None
 
 -- The same place, counted from n bytes earlier.
-abbrev pub shifted : ℕ → Behind → Behind
-shifted n (Rest m) = Rest (n + m)
-shifted n Nowhere = Nowhere
+abbrev pub shifted : ℕ → Option ℕ → Option ℕ
+shifted n (Some m) = Some (n + m)
+shifted n None = None
 
 -- The words left are those after some place of s.
 abbrev pub Tail : List ℕ → Parsed → Type 0
@@ -74,14 +72,14 @@ module _ (s : List ℕ) where
       rw (pieces_step 32 s) (tail_from k (token_of (take e s)) (tail_after k) e (before_le (is_byte 32) s))
 
   -- The place that a reading gives is the one after which its words are left.
-  pub left_behind : (p : Parsed) (m : ℕ) → Tail s p → Rest m ≡ placed s p → Left s m p
+  pub left_behind : (p : Parsed) (m : ℕ) → Tail s p → Some m ≡ placed s p → Left s m p
   left_behind unread m t q = let z : ◌≡◌ {A = ℕ} 0 1 = cc in omega arith
   left_behind (parsed e ws) m t q =
       let k : m ≡ length s - span ws = cc in
       let j : m ≡ t.0 = omega (arith, ap span t.2, span_after 32 (drop t.0 s), length-drop t.0 s) in
       (omega arith, t.2 ∙ ap (λ (i : ℕ). words_after (drop i s)) (sym j))
 
-  placed_le : (p : Parsed) (m : ℕ) → Rest m ≡ placed s p → m ≤ length s
+  placed_le : (p : Parsed) (m : ℕ) → Some m ≡ placed s p → m ≤ length s
   placed_le unread m q = let z : ◌≡◌ {A = ℕ} 0 1 = cc in omega arith
   placed_le (parsed e ws) m q = let k : m ≡ length s - span ws = cc in omega arith
 
@@ -90,10 +88,10 @@ module _ (s : List ℕ) where
   pub placed_part : (n : ℕ) (p : Parsed) → n ≤ length s → Tail (drop n s) p → shifted n (placed (drop n s) p) ≡ placed s p
   placed_part n unread h t = refl
   placed_part n (parsed e ws) h t =
-      ap Rest (omega (arith, ap span t.2, span_after 32 (drop t.0 (drop n s)), length-drop t.0 (drop n s), length-drop n s))
+      ap Some (omega (arith, ap span t.2, span_after 32 (drop t.0 (drop n s)), length-drop t.0 (drop n s), length-drop n s))
 
   -- A place of the part from n on lies within the whole.
-  pub part_within : (n : ℕ) (p : Parsed) (m : ℕ) → n ≤ length s → Rest m ≡ placed (take (length s - n) (drop n s)) p → n + m ≤ length s
+  pub part_within : (n : ℕ) (p : Parsed) (m : ℕ) → n ≤ length s → Some m ≡ placed (take (length s - n) (drop n s)) p → n + m ≤ length s
   part_within n p m h q =
       let t = take (length s - n) (drop n s) in
       omega (arith, placed_le t p m q, length-take (length s - n) (drop n s), length-drop n s)
@@ -127,8 +125,8 @@ module _ (s : List ℕ) where
   two_operands k m o unread l = absurd l
   two_operands k m o (parsed a ws) l = rw l.1 (sym (then_rest (read_levels k (words_after (drop m s))) (apply o a)))
 
-  no_operands : (k : ℕ) (o : Operator) (p : Parsed) → Nowhere ≡ placed s p
-      → Nowhere ≡ placed s (and_then p (λ a rest. and_then (read_levels k rest) (λ b behind. parsed (apply o a b) behind)))
+  no_operands : (k : ℕ) (o : Operator) (p : Parsed) → None ≡ placed s p
+      → None ≡ placed s (and_then p (λ a rest. and_then (read_levels k rest) (λ b behind. parsed (apply o a b) behind)))
   no_operands k o unread q = refl
   no_operands k o (parsed a ws) q = cc
 
@@ -147,23 +145,23 @@ module _ (s : List ℕ) (n e : ℕ) (h : n ≡ 0 → ⊥) (q : e ≡ 0 + before 
   first_within = omega (arith, before_le (is_byte 32) s)
 
 -- The same, where the word's token is known by an answer of `token_of`.
-module _ (s : List ℕ) (n e : ℕ) (h : n ≡ 0 → ⊥) (q : e ≡ 0 + before (is_byte 32) s) (t : TokenAnswer) (r : said_token (take e s) t ≡ token_of (take e s)) where
-  by_token : (u : TokenAnswer) → t ≡ u → placed s (from (read_levels (n - 1)) (said_token (take e s) u) (words_after (drop e s))) ≡ placed s (read_levels n (words s))
+module _ (s : List ℕ) (n e : ℕ) (h : n ≡ 0 → ⊥) (q : e ≡ 0 + before (is_byte 32) s) (t : Option TokenAnswer) (r : said_token (take e s) t ≡ token_of (take e s)) where
+  by_token : (u : Option TokenAnswer) → t ≡ u → placed s (from (read_levels (n - 1)) (said_token (take e s) u) (words_after (drop e s))) ≡ placed s (read_levels n (words s))
   by_token u k = sym (ap (placed s) (first_token s n e h q (said_token (take e s) u) (sym r ∙ ap (said_token (take e s)) k)))
 
-  pub end_of_second : (o : OperatorAnswer) → t ≡ Sign o → (m : ℕ) → Rest m ≡ placed s (read_levels (n - 1) (words_after (drop e s)))
+  pub end_of_second : (o : OperatorAnswer) → t ≡ Some (Sign o) → (m : ℕ) → Some m ≡ placed s (read_levels (n - 1) (words_after (drop e s)))
       → placed s (read_levels (n - 1) (words_after (drop m s))) ≡ placed s (read_levels n (words s))
   end_of_second o k m f =
       let p = read_levels (n - 1) (words_after (drop e s)) in
-      two_operands s (n - 1) m (said_operator o) p (left_behind s p m (tail_after s (n - 1) e) f) ∙ by_token (Sign o) k
+      two_operands s (n - 1) m (said_operator o) p (left_behind s p m (tail_after s (n - 1) e) f) ∙ by_token (Some (Sign o)) k
 
-  pub end_of_none : (o : OperatorAnswer) → t ≡ Sign o → Nowhere ≡ placed s (read_levels (n - 1) (words_after (drop e s)))
-      → Nowhere ≡ placed s (read_levels n (words s))
-  end_of_none o k f = no_operands s (n - 1) (said_operator o) (read_levels (n - 1) (words_after (drop e s))) f ∙ by_token (Sign o) k
+  pub end_of_none : (o : OperatorAnswer) → t ≡ Some (Sign o) → None ≡ placed s (read_levels (n - 1) (words_after (drop e s)))
+      → None ≡ placed s (read_levels n (words s))
+  end_of_none o k f = no_operands s (n - 1) (said_operator o) (read_levels (n - 1) (words_after (drop e s))) f ∙ by_token (Some (Sign o)) k
 
-  pub end_of_leaf : (x : LeafAnswer) → t ≡ Single x → Rest e ≡ placed s (read_levels n (words s))
+  pub end_of_leaf : (x : LeafAnswer) → t ≡ Some (Single x) → Some e ≡ placed s (read_levels n (words s))
   end_of_leaf x k =
-      ap Rest (omega (arith, first_within s n e h q, span_after 32 (drop e s), length-drop e s)) ∙ by_token (Single x) k
+      ap Some (omega (arith, first_within s n e h q, span_after 32 (drop e s), length-drop e s)) ∙ by_token (Some (Single x)) k
 
-  pub end_of_neither : t ≡ Neither → Nowhere ≡ placed s (read_levels n (words s))
-  end_of_neither k = by_token Neither k
+  pub end_of_neither : t ≡ None → None ≡ placed s (read_levels n (words s))
+  end_of_neither k = by_token None k

@@ -6,15 +6,15 @@ use Rattle.model.specs.Base.{bytes, same}
 use Rattle.model.specs.Word.{is_name, is_number, decimal}
 use Rattle.model.specs.Expression.{plus, minus, times, less, equal, number, field, argument, got, operator, leaf, neither}
 use Rattle.model.specs.Expression as model
-use Rattle.text_lex.specs.declared.Number.{Number}
-use Rattle.text_lex.specs.declared.Number.TheVariants.{Value, NoNumber}
+use Rattle.std.specs.Prelude as rust
+use Rattle.std.specs.Prelude.{Some, None}
 use Rattle.text_lex.specs.Number.{number_of, said}
 use Rattle.text_syntax.specs.declared.token.Operator.{Operator}
 use Rattle.text_syntax.specs.declared.token.Operator.TheVariants.{Plus, Minus, Times, Less, Equal}
 use Rattle.text_syntax.specs.declared.token.Leaf.{Leaf}
 use Rattle.text_syntax.specs.declared.token.Leaf.TheVariants.{Literal, Field, Argument, Got}
 use Rattle.text_syntax.specs.declared.token.Token.{Token}
-use Rattle.text_syntax.specs.declared.token.Token.TheVariants.{Sign, Single, Neither}
+use Rattle.text_syntax.specs.declared.token.Token.TheVariants.{Sign, Single}
 
 abbrev pub said_operator : Operator → model.Operator
 said_operator Plus = plus
@@ -30,15 +30,15 @@ said_leaf w Field = field w
 said_leaf w Argument = argument
 said_leaf w Got = got
 
-abbrev pub said_token : List ℕ → Token → model.Token
-said_token w (Sign o) = operator (said_operator o)
-said_token w (Single l) = leaf (said_leaf w l)
-said_token w Neither = neither
+abbrev pub said_token : List ℕ → rust.Option Token → model.Token
+said_token w (Some (Sign o)) = operator (said_operator o)
+said_token w (Some (Single l)) = leaf (said_leaf w l)
+said_token w None = neither
 
 -- The token of a number.
-abbrev pub literal : Number → Token
-literal (Value n) = Single (Literal n)
-literal NoNumber = Neither
+abbrev pub literal : rust.Option ℕ → rust.Option Token
+literal (Some n) = Some (Single (Literal n))
+literal None = None
 
 abbrev literal_of : Option ℕ → model.Token
 literal_of (some n) = leaf (number n)
@@ -52,13 +52,13 @@ named_or w other = cond (same w (bytes "arg")) (leaf argument) (cond (same w (by
 abbrev pub numeral : List ℕ → model.Token
 numeral w = cond (is_number w) (leaf (number (decimal 0 w))) neither
 
-pub literal_said : (w : List ℕ) (n : Number) → said n ≡ number_of w → said_token w (literal n) ≡ numeral w
+pub literal_said : (w : List ℕ) (n : rust.Option ℕ) → said n ≡ number_of w → said_token w (literal n) ≡ numeral w
 unfolding number_of
 literal_said w n e = by n ∙ ap literal_of e ∙ through (is_number w)
   where
-    by : (n : Number) → said_token w (literal n) ≡ literal_of (said n)
-    by (Value n) = refl
-    by NoNumber = refl
+    by : (n : rust.Option ℕ) → said_token w (literal n) ≡ literal_of (said n)
+    by (Some n) = refl
+    by None = refl
 
     through : (t : Bool) → literal_of (cond t (some (decimal 0 w)) none) ≡ cond t (leaf (number (decimal 0 w))) neither
     through true = refl

@@ -1,28 +1,25 @@
 // The form of a line: its keyword, and whether the words after it are as that keyword requires. A position is the end of a word;
 // a missing word counts as empty, and an empty word is nothing.
-ghost use Rattle.std.specs.Prelude.{◌≡◌, drop};
+ghost use Rattle.std.specs.Prelude.{◌≡◌, Some, drop};
 ghost use Rattle.model.specs.Base.{every};
 ghost use Rattle.model.specs.Text.{pieces, words};
+ghost use Rattle.model.specs.Word.{is_name, is_number};
 ghost use Rattle.model.specs.Expression.{expression};
 ghost use Rattle.model.specs.Form.{action_of, form_of};
 ghost use Rattle.text_lex.specs.Piece.{words_after};
 ghost use Rattle.text_syntax.specs.Keywords.{said_keyword};
-ghost use Rattle.text_syntax.specs.Kinds.{kind_of, said, kind_by, fits, is_sort, is_action, is_whole};
+ghost use Rattle.text_syntax.specs.Kinds.{kind_of, said, kind_by, fits, is_action, is_whole};
 ghost use Rattle.text_syntax.specs.Kinds.{is_named, are_names, is_class, is_object, is_assign, is_target, is_send, is_guarded};
 
-use super::expression::{Behind, expression_end_after};
+use super::expression::expression_end_after;
 use super::keyword::{Keyword, keyword_of};
 
 const LEVELS: usize = 9;
 
 const POINT: u8 = 46;
 
-const NAMES: bool = false;
-
-const NUMBERS: bool = true;
-
 // The kind of a line, by its form.
-#[derive(Clone, Copy)]
+#[derive(Clone, Copy, Debug, PartialEq, Eq)]
 pub enum Kind {
     Class,
     Field,
@@ -30,32 +27,20 @@ pub enum Kind {
     Statement,
     End,
     Object,
-    Malformed,
 }
 
-// Whether the word is a number where numbers are required, else a name.
-fn is_sort(word: &[u8], numbers: bool) -> bool
-    ensures { result ≡ is_sort numbers word.now }
+// Whether each word after `at` is a name.
+fn all_names(line: &[u8], at: usize) -> bool
+    ensures { result ≡ every is_name (words_after (drop at line.now)) }
 {
-    if numbers {
-        text_lex::is_number(word)
-    } else {
-        text_lex::is_name(word)
-    }
+    text_lex::words_after(line, at).all(|word| text_lex::is_name(word))
 }
 
-// Whether each word after `at` is a name or, where numbers are required, a number.
-fn all_words(line: &[u8], at: usize, numbers: bool) -> bool
-    ensures { result ≡ every (is_sort numbers) (words_after (drop at line.now)) }
+// Whether each word after `at` is a number.
+fn all_numbers(line: &[u8], at: usize) -> bool
+    ensures { result ≡ every is_number (words_after (drop at line.now)) }
 {
-    let mut place = at;
-    while place < line.len() {
-        if !is_sort(text_lex::word_after(line, place), numbers) {
-            return false;
-        }
-        place = text_lex::word_end_after(line, place);
-    }
-    true
+    text_lex::words_after(line, at).all(|word| text_lex::is_number(word))
 }
 
 // Whether one name, and nothing more, follows `at`.
@@ -70,7 +55,7 @@ fn is_named(line: &[u8], at: usize) -> bool
 fn are_names(line: &[u8], at: usize) -> bool
     ensures { result ≡ are_names (words_after (drop at line.now)) }
 {
-    !(line.len() <= at) & all_words(line, at, NAMES)
+    !(line.len() <= at) & all_names(line, at)
 }
 
 // Whether the words of a class follow `at`: its name, and after a colon its parents, if any.
@@ -92,17 +77,16 @@ fn is_object(line: &[u8], at: usize) -> bool
     let class = text_lex::word_end_after(line, name);
     text_lex::is_name(text_lex::word_after(line, at))
         & text_lex::is_name(text_lex::word_after(line, name))
-        & all_words(line, class, NUMBERS)
+        & all_numbers(line, class)
 }
 
 // Whether the words after `at` are one expression.
 fn is_whole(line: &[u8], at: usize) -> bool
     ensures { result ≡ is_whole (expression (words_after (drop at line.now))) }
 {
-    let behind = expression_end_after(line, at, LEVELS);
-    match behind {
-        Behind::Rest(end) => line.len() <= end,
-        Behind::Nowhere => false,
+    match expression_end_after(line, at, LEVELS) {
+        Some(end) => line.len() <= end,
+        None => false,
     }
 }
 
@@ -137,22 +121,26 @@ fn is_send(line: &[u8], at: usize) -> bool
         & (is_target(text_lex::word_after(line, at)) & is_whole(line, own))
 }
 
-// Whether the words after `at` make an action of the keyword.
-pub fn is_action(keyword: Keyword, line: &[u8], at: usize) -> bool
-    ensures { result ≡ is_action (action_of (said_keyword keyword) (words_after (drop at line.now))) }
+// Whether the words after `at` make an action of the keyword; false for a keyword of no action.
+fn makes_action(keyword: Keyword, line: &[u8], at: usize) -> bool
+    ensures { result ≡ is_action (action_of (said_keyword (Some keyword)) (words_after (drop at line.now))) }
 {
     match keyword {
         Keyword::Set => is_assign(line, at),
         Keyword::Add => is_assign(line, at),
         Keyword::Send => is_send(line, at),
         Keyword::Reply => is_whole(line, at),
-        Keyword::Class => false,
-        Keyword::Field => false,
-        Keyword::Method => false,
-        Keyword::End => false,
-        Keyword::Object => false,
-        Keyword::When => false,
-        Keyword::Other => false,
+        _ => false,
+    }
+}
+
+// The same for a word's keyword, if it has one.
+pub fn is_action(keyword: Option<Keyword>, line: &[u8], at: usize) -> bool
+    ensures { result ≡ is_action (action_of (said_keyword keyword) (words_after (drop at line.now))) }
+{
+    match keyword {
+        Some(keyword) => makes_action(keyword, line, at),
+        None => false,
     }
 }
 
@@ -160,19 +148,18 @@ pub fn is_action(keyword: Keyword, line: &[u8], at: usize) -> bool
 fn is_guarded(line: &[u8], at: usize) -> bool
     ensures { result ≡ is_guarded (expression (words_after (drop at line.now))) }
 {
-    let behind = expression_end_after(line, at, LEVELS);
-    match behind {
-        Behind::Rest(end) => {
+    match expression_end_after(line, at, LEVELS) {
+        Some(end) => {
             let keyword = keyword_of(text_lex::word_after(line, end));
             is_action(keyword, line, text_lex::word_end_after(line, end))
         }
-        Behind::Nowhere => false,
+        None => false,
     }
 }
 
 // Whether the words after `at` are as the keyword requires.
 fn fits(keyword: Keyword, line: &[u8], at: usize) -> bool
-    ensures { result ≡ fits (said_keyword keyword) (words_after (drop at line.now)) }
+    ensures { result ≡ fits (said_keyword (Some keyword)) (words_after (drop at line.now)) }
 {
     match keyword {
         Keyword::Class => is_class(line, at),
@@ -180,18 +167,14 @@ fn fits(keyword: Keyword, line: &[u8], at: usize) -> bool
         Keyword::Method => is_named(line, at),
         Keyword::End => line.len() <= at,
         Keyword::Object => is_object(line, at),
-        Keyword::Set => is_action(Keyword::Set, line, at),
-        Keyword::Add => is_action(Keyword::Add, line, at),
-        Keyword::Send => is_action(Keyword::Send, line, at),
-        Keyword::Reply => is_action(Keyword::Reply, line, at),
         Keyword::When => is_guarded(line, at),
-        Keyword::Other => false,
+        _ => makes_action(keyword, line, at),
     }
 }
 
 // The kind of a line that begins with the keyword and fits it.
 fn kind_by(keyword: Keyword) -> Kind
-    ensures { said result ≡ kind_by (said_keyword keyword) }
+    ensures { said (Some result) ≡ kind_by (said_keyword (Some keyword)) }
 {
     match keyword {
         Keyword::Class => Kind::Class,
@@ -199,24 +182,21 @@ fn kind_by(keyword: Keyword) -> Kind
         Keyword::Method => Kind::Method,
         Keyword::End => Kind::End,
         Keyword::Object => Kind::Object,
-        Keyword::Set => Kind::Statement,
-        Keyword::Add => Kind::Statement,
-        Keyword::Send => Kind::Statement,
-        Keyword::Reply => Kind::Statement,
-        Keyword::When => Kind::Statement,
-        Keyword::Other => Kind::Malformed,
+        Keyword::Set | Keyword::Add | Keyword::Send | Keyword::Reply | Keyword::When => {
+            Kind::Statement
+        }
     }
 }
 
-// The kind of the line; Malformed where it has no form.
-pub fn kind_of(line: &[u8]) -> Kind
+// The kind of the line; None where it has no form.
+pub fn kind_of(line: &[u8]) -> Option<Kind>
     ensures { said result ≡ kind_of (form_of (words line.now)) }
 {
     let at = text_lex::word_end(line, 0);
-    let keyword = keyword_of(&line[..at]);
+    let keyword = keyword_of(&line[..at])?;
     if fits(keyword, line, at) {
-        kind_by(keyword)
+        Some(kind_by(keyword))
     } else {
-        Kind::Malformed
+        None
     }
 }

@@ -9,7 +9,7 @@ use mathlib.Core.List.{List, [], ◌∷◌, ◌++◌, Memᴰ}
 use Rattle.std.proofs.lemmas.Bool.{eqb-false}
 use Rattle.model.specs.Base.{any, every, upto}
 use Rattle.laws.specs.Lists.{both_left, both_right}
-use Rattle.laws.specs.Upto.{length_upto, upto_more, get_d_upto, test_here}
+use Rattle.laws.specs.Upto.{length_upto, get_d_upto}
 
 pub listed : {A : Type 0} (d : A) (xs : List A) → xs ≡ upto (λ k. get_or xs k d) (length xs)
 listed d xs =
@@ -98,15 +98,6 @@ module _ {A : Type 0} where
       go : (t : Bool) → every p (xs ++ ys) ≡ (every p xs && every p ys) → (t && every p (xs ++ ys)) ≡ ((t && every p xs) && every p ys)
       go true e = e
       go false e = refl
-
--- A loop that tests each number below n: a turn, and where it ends at one that fails.
-module _ (p : ℕ → Bool) (j : ℕ) where
-  pub each_more : every p (upto (λ i. i) j) ≡ true → p j ≡ true → every p (upto (λ i. i) (j + 1)) ≡ true
-  unfolding every
-  each_more e t = ap (every p) (upto_more (λ i. i) j) ∙ every_append p (upto (λ i. i) j) (j ∷ []) ∙ rw (e, t)
-
-  pub each_fails : (n : ℕ) → j < n → p j ≡ false → every p (upto (λ i. i) n) ≡ false
-  each_fails n h e = every_any p (upto (λ i. i) n) ∙ ap not (test_here (λ i. not (p i)) (λ i. i) j (ap not e) n h)
 
 -- A test of one number below n.
 pub every_one : (f : ℕ → Bool) (x n : ℕ) → every (λ i. not (eqb x i) || f i) (upto (λ i. i) n) ≡ (not (ltb x n) || f x)

@@ -16,7 +16,8 @@ const COMPATIBLE: [[bool; 4]; 4] = [
     [true, false, false, false],
 ];
 
-// The fields in the mode of a rank, by whether it depends on them and whether it changes them. A number that is no rank has none.
+// The fields in the mode of a rank, by whether it depends on them and whether it changes them. A number that is no rank has none:
+// the clause says so of each number, so the rank is no enum.
 pub fn mode_mask(vector: Vector, rank: usize) -> u32
     ensures { result ≡ mode_mask vector rank }
 {
@@ -36,11 +37,7 @@ fn pair_apart(a: Vector, b: Vector, i: usize, j: usize) -> bool
     requires { (i < length compatible) × (j < length compatible) }
     ensures { result ≡ pair_apart compatible (mode_mask a) (mode_mask b) i j }
 {
-    if COMPATIBLE[i][j] {
-        true
-    } else {
-        mode_mask(a, i) & mode_mask(b, j) == 0
-    }
+    COMPATIBLE[i][j] || mode_mask(a, i) & mode_mask(b, j) == 0
 }
 
 // The same for every mode of the second method.
@@ -48,26 +45,12 @@ fn row_apart(a: Vector, b: Vector, i: usize) -> bool
     requires { i < length compatible }
     ensures { result ≡ row_apart compatible (mode_mask a) (mode_mask b) i }
 {
-    let mut j = 0;
-    while j < COMPATIBLE.len() {
-        if !pair_apart(a, b, i, j) {
-            return false;
-        }
-        j += 1;
-    }
-    true
+    (0..COMPATIBLE.len()).all(|j| pair_apart(a, b, i, j))
 }
 
 // Whether two methods commute: no pair of modes that the table forbids meets at a field.
 pub fn commuting(a: Vector, b: Vector) -> bool
     ensures { result ≡ apart a b }
 {
-    let mut i = 0;
-    while i < COMPATIBLE.len() {
-        if !row_apart(a, b, i) {
-            return false;
-        }
-        i += 1;
-    }
-    true
+    (0..COMPATIBLE.len()).all(|i| row_apart(a, b, i))
 }

@@ -1,5 +1,5 @@
 -- The body of a vertex as the tables hold it: a run of statements, cut at the last one of the text.
-use Rattle.std.specs.Prelude.{ℕ, ◌+◌, ◌-◌, ◌*◌, ◌/◌, ◌%◌, min, Bool, cond, take, drop}
+use Rattle.std.specs.Prelude.{ℕ, ◌+◌, ◌-◌, ◌*◌, ◌/◌, ◌%◌, min, Bool, cond, take, drop, Some, None}
 use Rattle.std.proofs.Common.{arith, sym, ◌∙◌}
 use Rattle.std.proofs.Math.Path.{◌≡◌, refl, ap}
 use Rattle.std.proofs.Math.Bool.{true, false}
@@ -15,7 +15,8 @@ use Rattle.laws.specs.Lookup.{place_unknown}
 use Rattle.catalog.specs.View.{class_word, statement_word, statement_count, placed_of, library_of, part_of, name_of}
 use Rattle.catalog.specs.Bodies as Look
 use Rattle.catalog.specs.Bodies.{bounds_of}
-use Rattle.catalog.specs.declared.body.Body.TheVariants.{Found, Missing}
+use Rattle.catalog.specs.declared.body.Statements.{Statements}
+use Rattle.std.proofs.lemmas.Option.{same_Some}
 use Rattle.vector_direct.specs.Fields.{map_upto}
 use Rattle.vector_direct.specs.Lines.{statement_of}
 use Rattle.vector_commute.specs.Lists.{run_upto}
@@ -54,22 +55,23 @@ module _ (text ws : List ℕ) (c : ℕ) (n : Name) where
   abbrev written : Member
   written = member methods n
 
-  found_written : (first end : ℕ) → Found first end ≡ bounds_of (Look.body_in text ws c n) → (written.first ≡ first) × (written.count ≡ end - first)
+  found_written : (s : Statements) → Some s ≡ bounds_of (Look.body_in text ws c n) → (written.first ≡ s.first) × (written.count ≡ s.end - s.first)
   unfolding Look.body_in
-  found_written first end = go (among methods n)
+  found_written s = go (among methods n)
     where
-      go : (t : Bool) → Found first end ≡ bounds_of (cond t (some written) none) → (written.first ≡ first) × (written.count ≡ end - first)
+      go : (t : Bool) → Some s ≡ bounds_of (cond t (some written) none) → (written.first ≡ s.first) × (written.count ≡ s.end - s.first)
       go true q =
-          let a : written.first ≡ first = cc in
-          let b : end ≡ written.first + written.count = cc in
-          (a, omega arith)
+          let same : s ≡ record { first = written.first; end = written.first + written.count } = same_Some _ _ q in
+          let b : s.end ≡ written.first + written.count = ap (λ (r : Statements). r.end) same in
+          let a : s.first ≡ written.first = ap (λ (r : Statements). r.first) same in
+          (sym a, omega arith)
       go false q = let z : ◌≡◌ {A = ℕ} 0 1 = cc in absurd (omega arith)
 
-  none_written : Missing ≡ bounds_of (Look.body_in text ws c n) → written ≡ no_member
+  none_written : None ≡ bounds_of (Look.body_in text ws c n) → written ≡ no_member
   unfolding Look.body_in
   none_written = go (among methods n) refl
     where
-      go : (t : Bool) → among methods n ≡ t → Missing ≡ bounds_of (cond t (some written) none) → written ≡ no_member
+      go : (t : Bool) → among methods n ≡ t → None ≡ bounds_of (cond t (some written) none) → written ≡ no_member
       go true e q = let z : ◌≡◌ {A = ℕ} 0 1 = cc in absurd (omega arith)
       go false e q = unfold member in get_or-eq_default methods no_member (omega (arith, place_unknown methods n e))
 
@@ -79,12 +81,12 @@ module _ (text ws : List ℕ) (node w : ℕ) (name : Name) (q : w ≡ class_word
   unfolding body_of node_at
   body_is = ap (λ (n : Name). body_of (library_of text ws) (as_recorded (library_of text ws)) (node / 32) n) (sym (e ∙ ap (name_of text) q))
 
-  pub body_found : (first end at size : ℕ) → Found first end ≡ bounds_of (Look.body_in text ws (node / 32) name) → Cut ws first end at size
+  pub body_found : (s : Statements) (at size : ℕ) → Some s ≡ bounds_of (Look.body_in text ws (node / 32) name) → Cut ws s.first s.end at size
       → body_of_node text ws node ≡ upto (statement_at text ws at) size
-  body_found first end at size f k =
-      let m = found_written text ws (node / 32) name first end f in
+  body_found s at size f k =
+      let m = found_written text ws (node / 32) name s f in
       body_is ∙ statements_upto text ws (written text ws (node / 32) name) at size (m.0 ∙ sym k.at_is) (omega (arith, m.1, k.at_is, k.size_is))
 
-  pub body_missing : Missing ≡ bounds_of (Look.body_in text ws (node / 32) name) → body_of_node text ws node ≡ upto (statement_at text ws 0) 0
+  pub body_missing : None ≡ bounds_of (Look.body_in text ws (node / 32) name) → body_of_node text ws node ≡ upto (statement_at text ws 0) 0
   unfolding statements_of upto
   body_missing f = body_is ∙ ap (statements_of (library_of text ws)) (none_written text ws (node / 32) name f)

@@ -1,6 +1,8 @@
 pub mod Nodes
+pub mod Here
 pub mod Bodies
 pub mod Marks
+pub mod Numbers
 pub mod Meeting
 pub mod Joining
 pub mod Closure

@@ -1,7 +1,7 @@
 -- Marks of numbered vertices, 0 not met, 1 met, 2 followed: following every vertex that is met, until none is left, marks
 -- those reached.
-use Prim.Native.Nat.{ℕ, zero, suc, ◌+◌, ◌≤◌, ◌<◌}
-use Rattle.std.specs.Prelude.{◌≡◌, ◌⊎◌, Bool, cond, set}
+use Prim.Native.Nat.{ℕ, zero, suc, ◌+◌, ◌<◌}
+use Rattle.std.specs.Prelude.{◌≡◌, ◌⊎◌, Bool, cond, set, Option, MatchOption}
 use Rattle.std.proofs.Math.Path.{refl, ap, subst}
 use Rattle.std.proofs.Common.{sym, ◌∙◌, add-one, get_or-set_other}
 use Rattle.std.proofs.Math.Logic.{inl, inr, ⊎_elim}
@@ -237,10 +237,9 @@ module _ (E : ℕ → ℕ → Type 0) (r : ℕ) where
 
 -- ---- what the code's steps answer
 
--- A vertex to follow, or 512 where there is none.
-pub record NextMet (ms : List ℕ) (r : ℕ) : Type 0 where
-  pub met : r < 512 → get_or ms r 0 ≡ 1
-  pub none : 512 ≤ r → (x : ℕ) → x < 512 → get_or ms x 0 ≡ 1 → ⊥
+-- A vertex to follow, or none where none is left.
+abbrev pub NextMet : List ℕ → Option ℕ → Type 0
+NextMet ms r = MatchOption r ((x : ℕ) → x < 512 → get_or ms x 0 ≡ 1 → ⊥) (λ x. get_or ms x 0 ≡ 1)
 
 -- All that x leads to is met.
 pub record CallsMet (E : ℕ → ℕ → Type 0) (x : ℕ) (ms ms' : List ℕ) : Type 0 where
@@ -272,21 +271,19 @@ followed E x ms ms₁ ms' q m =
       partly = λ e r i. subst (Partly E r) (sym result) (turn_partly E r ms i x e (met_inside ms x e) m.call m.count m.sound m.complete);
     }
 
--- The state of the worklist: what it began with is kept, and x is to be followed next.
-pub record Closing (E : ℕ → ℕ → Type 0) (ms₀ ms : List ℕ) (x : ℕ) : Type 0 where
+-- The state of the worklist: what it began with is kept.
+pub record Closing (E : ℕ → ℕ → Type 0) (ms₀ ms : List ℕ) : Type 0 where
   pub size : length ms ≡ length ms₀
   pub partly : (r : ℕ) → Partly E r ms₀ → Partly E r ms
-  pub next : NextMet ms x
 
 module _ (E : ℕ → ℕ → Type 0) (ms₀ : List ℕ) where
-  pub closing_start : (x : ℕ) → NextMet ms₀ x → Closing E ms₀ ms₀ x
-  closing_start x n = record { size = refl; partly = λ r i. i; next = n }
+  pub closing_start : Closing E ms₀ ms₀
+  closing_start = record { size = refl; partly = λ r i. i }
 
-  pub closing_more : (ms : List ℕ) (x : ℕ) (ms' : List ℕ) (x' : ℕ) → Closing E ms₀ ms x → x < 512 → Followed E x ms ms' → NextMet ms' x' → Closing E ms₀ ms' x'
-  closing_more ms x ms' x' c h f n =
-      record { size = f.size ∙ c.size; partly = λ r i. f.partly (c.next.met h) r (c.partly r i); next = n }
+  pub closing_more : (ms : List ℕ) (x : ℕ) (ms' : List ℕ) → Closing E ms₀ ms → get_or ms x 0 ≡ 1 → Followed E x ms ms' → Closing E ms₀ ms'
+  closing_more ms x ms' c h f = record { size = f.size ∙ c.size; partly = λ r i. f.partly h r (c.partly r i) }
 
-  pub closing_end : (ms : List ℕ) (x : ℕ) → Closing E ms₀ ms x → 512 ≤ x → (r : ℕ) → Partly E r ms₀ → Closed E r ms
-  closing_end ms x c h r i =
+  pub closing_end : (ms : List ℕ) → Closing E ms₀ ms → ((x : ℕ) → x < 512 → get_or ms x 0 ≡ 1 → ⊥) → (r : ℕ) → Partly E r ms₀ → Closed E r ms
+  closing_end ms c none r i =
       let p = c.partly r i in
-      partly_closed E r ms p (λ y e. c.next.none h y (omega (arith, met_inside ms y e, p.size)) e)
+      partly_closed E r ms p (λ y e. none y (omega (arith, met_inside ms y e, p.size)) e)

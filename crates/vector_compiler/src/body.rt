@@ -1,14 +1,22 @@
 // The bodies of methods as the tables hold them: where a body's statements are, and what they do together.
-ghost use Rattle.std.specs.Prelude.{◌+◌, ◌-◌, ◌≡◌};
+ghost use Rattle.std.specs.Prelude.{◌+◌, ◌≡◌};
 ghost use Rattle.model.specs.Base.{upto};
 ghost use Rattle.model.specs.Vector.{in_body};
 ghost use Rattle.catalog.specs.View.{part_of, statement_word};
-ghost use Rattle.vector_direct.specs.Fields.{fields_in};
 ghost use Rattle.vector_direct.specs.Says.{Says};
 ghost use Rattle.vector_compiler.specs.Bodies.{statement_at, Cut};
 ghost use Rattle.vector_compiler.specs.Nodes.{body_of_node};
+ghost use Rattle.vector_compiler.specs.Here.{fields_of};
 
 use vector_direct::Vector;
+
+// A class of the library, whose objects the graph is of.
+#[derive(Clone, Copy)]
+pub struct Class<'a> {
+    pub text: &'a [u8],
+    pub tables: &'a [u32],
+    pub number: u32,
+}
 
 // A run of the text's statements.
 #[derive(Clone, Copy)]
@@ -17,21 +25,14 @@ pub struct Body {
     pub size: u32,
 }
 
-// The number of statements from the first on.
-fn left_of(all: u32, first: u32) -> u32
-    ensures { result ≡ all - first }
-{
-    if first <= all { all - first } else { 0 }
-}
-
 // The statements from one up to another, cut at the text's last statement.
 fn run_of(tables: &[u32], first: u32, end: u32) -> Body
     ensures { Cut tables.now first end result.first result.size }
 {
-    let left = left_of(catalog::statement_count(tables), first);
+    let left = catalog::statement_count(tables).saturating_sub(first);
     Body {
         first,
-        size: catalog::least(left_of(end, first), left),
+        size: end.saturating_sub(first).min(left),
     }
 }
 
@@ -40,11 +41,13 @@ pub fn body_of(text: &[u8], tables: &[u32], node: u32) -> Body
     ensures { body_of_node text.now tables.now node ≡ upto (statement_at text.now tables.now result.first) result.size }
 {
     let class = node / 32;
-    let name = catalog::name_of(text, catalog::member_word(tables, class, 1, node % 32));
-    let found = catalog::body::body_in(text, tables, class, name);
-    match found {
-        catalog::body::Body::Found(first, end) => run_of(tables, first, end),
-        catalog::body::Body::Missing => Body { first: 0, size: 0 },
+    let name = catalog::name_of(
+        text,
+        catalog::member_word(tables, class, layout::METHODS, node % 32),
+    );
+    match catalog::body::body_in(text, tables, class, name) {
+        Some(found) => run_of(tables, found.first, found.end),
+        None => Body { first: 0, size: 0 },
     }
 }
 
@@ -62,24 +65,20 @@ pub fn line_of<'a>(text: &'a [u8], tables: &[u32], first: u32, i: u32) -> &'a [u
 }
 
 // The direct vector of the method with a number, over the fields of a class.
-pub fn body_vector(text: &[u8], tables: &[u32], class: u32, node: u32) -> Vector
-    ensures { Says (fields_in text.now tables.now class) (λ f. in_body f (body_of_node text.now tables.now node)) result }
+pub fn body_vector(class: &Class<'_>, node: u32) -> Vector
+    ensures { Says (fields_of class.now) (λ f. in_body f (body_of_node class.now.text.now class.now.tables.now node)) result }
 {
-    let body = body_of(text, tables, node);
-    let first = body.first;
-    let size = body.size;
+    let body = body_of(class.text, class.tables, node);
     let mut vector = Vector {
         depends: 0,
         changes: 0,
     };
-    let mut i = 0;
-    while i < size {
-        let line = line_of(text, tables, first, i);
+    for i in 0..body.size {
+        let line = line_of(class.text, class.tables, body.first, i);
         vector = vector_direct::joined(
             vector,
-            vector_direct::line_vector(text, tables, class, line),
+            vector_direct::line_vector(class.text, class.tables, class.number, line),
         );
-        i += 1;
     }
     vector
 }

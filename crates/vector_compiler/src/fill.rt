@@ -6,7 +6,9 @@ ghost use Rattle.catalog.specs.View.{member_count};
 ghost use Rattle.vector_compiler.specs.Filled.{Filled};
 ghost use Rattle.vector_compiler.specs.Filling.{with_vector, stored, commuting_mask, ModesTo, CommutingTo, ClassFilled};
 
+use super::body::Class;
 use super::closure::vector_of;
+use super::memo::Memo;
 use vector_commute::{commuting, mode_mask};
 use vector_direct::Vector;
 
@@ -54,14 +56,12 @@ fn stored_vector(tables: &[u32], class: u32, method: u32) -> Vector
 fn commuting_mask(tables: &[u32], class: u32, method: u32) -> u32
     ensures { result ≡ commuting_mask tables.now class method }
 {
-    let count = catalog::member_count(tables, class, 1);
+    let count = catalog::member_count(tables, class, layout::METHODS);
     let vector = stored_vector(tables, class, method);
     let mut mask = 0;
-    let mut other = 0;
-    while other < count {
+    for other in 0..count {
         let together = commuting(vector, stored_vector(tables, class, other));
         mask = vector_direct::with_bit(mask, other, together);
-        other += 1;
     }
     mask
 }
@@ -71,14 +71,16 @@ fn fill_masks(text: &[u8], tables: &mut [u32], class: u32)
     requires { class < 16 }
     ensures { ModesTo text.now tables.old class (member_count tables.old class 1) tables.new }
 {
-    let count = catalog::member_count(tables, class, 1);
-    let mut bodies = [0u32; 2560];
-    let mut callees = [0u32; 4096];
-    let mut method = 0;
-    while method < count {
-        let vector = vector_of(text, tables, class, method, &mut bodies, &mut callees);
+    let count = catalog::member_count(tables, class, layout::METHODS);
+    let mut memo = Memo::new();
+    for method in 0..count {
+        let here = Class {
+            text,
+            tables,
+            number: class,
+        };
+        let vector = vector_of(&here, method, &mut memo);
         put_vector(tables, class, method, vector);
-        method += 1;
     }
 }
 
@@ -86,16 +88,14 @@ fn fill_masks(text: &[u8], tables: &mut [u32], class: u32)
 fn fill_commuting(tables: &mut [u32], class: u32)
     ensures { CommutingTo tables.old class (member_count tables.old class 1) tables.new }
 {
-    let count = catalog::member_count(tables, class, 1);
-    let mut method = 0;
-    while method < count {
+    let count = catalog::member_count(tables, class, layout::METHODS);
+    for method in 0..count {
         let mask = commuting_mask(tables, class, method);
         memory::put(
             tables,
             mask_place(class, layout::COMMUTING_AT, method),
             mask,
         );
-        method += 1;
     }
 }
 
@@ -113,9 +113,7 @@ pub fn fill_vectors(text: &[u8], tables: &mut [u32])
     ensures { Filled text.now tables.old tables.new }
 {
     let count = catalog::class_count(tables);
-    let mut class = 0;
-    while class < count {
+    for class in 0..count {
         fill_class(text, tables, class);
-        class += 1;
     }
 }

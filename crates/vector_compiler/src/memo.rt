@@ -1,101 +1,109 @@
 // What is found once for a class and kept while the vectors of its methods are made: for each method, where its body is and its
-// direct vector, in five words; for each statement, what it calls, in one word. 0 means not found yet.
-ghost use Rattle.std.specs.Prelude.{◌≡◌};
+// direct vector; for each statement, what it calls.
+ghost use Rattle.std.specs.Prelude.{◌≡◌, ℕ, List, get_or, set, Some, None};
 ghost use Rattle.vector_compiler.specs.Meeting.{call_at};
-ghost use Rattle.vector_compiler.specs.Memo.{Right, row_at, with_row, Bodies, Callees};
+ghost use Rattle.vector_compiler.specs.Memo.{Right, Memory, Kept};
 
-use super::body::{body_of, body_vector, line_of};
+use super::body::{Body, Class, body_of, body_vector, line_of};
+use vector_direct::Vector;
 
 // What a method does by itself: the run of its statements, and the fields of the class that they depend on and change.
 #[derive(Clone, Copy)]
 pub struct Direct {
-    pub first: u32,
-    pub size: u32,
-    pub depends: u32,
-    pub changes: u32,
+    pub body: Body,
+    pub vector: Vector,
 }
 
-// The same for a method by its number, found in the text.
-fn found(text: &[u8], tables: &[u32], class: u32, node: u32) -> Direct
-    ensures { Right text.now tables.now class node result }
+// What is kept of each method by its number, and of each statement the number of what it calls.
+#[derive(Drop)]
+pub struct Memo {
+    pub bodies: [Option<Direct>; 512],
+    pub callees: [Option<u32>; 4096],
+}
+
+// What a method does by itself, by its number, found in the text.
+fn found(class: &Class<'_>, node: u32) -> Direct
+    ensures { Right class.now.text.now class.now.tables.now class.now.number node result }
 {
-    let body = body_of(text, tables, node);
-    let vector = body_vector(text, tables, class, node);
     Direct {
-        first: body.first,
-        size: body.size,
-        depends: vector.depends,
-        changes: vector.changes,
+        body: body_of(class.text, class.tables, node),
+        vector: body_vector(class, node),
     }
 }
 
-// What is kept of a method.
-fn kept(bodies: &[u32], node: u32) -> Direct
-    ensures { result ≡ row_at bodies.now node }
-{
-    let at = node as usize * 5;
-    Direct {
-        first: memory::get(bodies, at + 1),
-        size: memory::get(bodies, at + 2),
-        depends: memory::get(bodies, at + 3),
-        changes: memory::get(bodies, at + 4),
+impl Memo {
+    // A memo that keeps nothing.
+    pub(crate) fn new() -> Memo
+        ensures { (text tables : List ℕ) (class : ℕ) → Memory text tables class result }
+    {
+        Memo {
+            bodies: [None; 512],
+            callees: [None; 4096],
+        }
     }
-}
 
-// Keeps what was found of a method.
-fn keep(bodies: &mut [u32], node: u32, direct: Direct)
-    ensures { bodies.new ≡ with_row bodies.old node direct }
-{
-    let at = node as usize * 5;
-    memory::put(bodies, at, 1);
-    memory::put(bodies, at + 1, direct.first);
-    memory::put(bodies, at + 2, direct.size);
-    memory::put(bodies, at + 3, direct.depends);
-    memory::put(bodies, at + 4, direct.changes);
-}
+    // What is kept of a method.
+    fn body(&self, node: u32) -> Option<Direct>
+        ensures { result ≡ get_or self.now.bodies node None }
+    {
+        *self.bodies.get(node as usize)?
+    }
 
-// What a method does by itself; found and kept where it is not kept yet.
-pub(crate) fn direct_of(
-    text: &[u8],
-    tables: &[u32],
-    class: u32,
-    node: u32,
-    bodies: &mut [u32],
-) -> Direct
-    requires { Bodies text.now tables.now class bodies.old }
-    ensures right { Right text.now tables.now class node result }
-    ensures bodies { Bodies text.now tables.now class bodies.new }
-{
-    if memory::get(bodies, node as usize * 5) == 0 {
-        let direct = found(text, tables, class, node);
-        keep(bodies, node, direct);
+    // Keeps what a method does by itself; nothing for a number that no method has.
+    fn keep_body(&mut self, node: u32, direct: Direct)
+        ensures bodies { self.new.bodies ≡ set self.old.bodies node (Some direct) }
+        ensures callees { self.new.callees ≡ self.old.callees }
+    {
+        let place = node as usize;
+        if place < self.bodies.len() {
+            self.bodies[place] = Some(direct);
+        }
+    }
+
+    // What is kept of a statement.
+    fn callee(&self, statement: usize) -> Option<u32>
+        ensures { result ≡ get_or self.now.callees statement None }
+    {
+        *self.callees.get(statement)?
+    }
+
+    // Keeps the number of what a statement calls; nothing past the last one.
+    fn keep_callee(&mut self, statement: usize, number: u32)
+        ensures bodies { self.new.bodies ≡ self.old.bodies }
+        ensures callees { self.new.callees ≡ set self.old.callees statement (Some number) }
+    {
+        if statement < self.callees.len() {
+            self.callees[statement] = Some(number);
+        }
+    }
+
+    // What a method does by itself; found and kept where it is not kept yet.
+    pub(crate) fn direct_of(&mut self, class: &Class<'_>, node: u32) -> Direct
+        requires { Kept class.now self.old }
+        ensures right { Right class.now.text.now class.now.tables.now class.now.number node result }
+        ensures memory { Kept class.now self.new }
+    {
+        if let Some(direct) = self.body(node) {
+            return direct;
+        }
+        let direct = found(class, node);
+        self.keep_body(node, direct);
         direct
-    } else {
-        kept(bodies, node)
     }
-}
 
-// The number of what statement i of a run calls on an object of the class; found and kept where it is not kept yet.
-pub(crate) fn callee_of(
-    text: &[u8],
-    tables: &[u32],
-    class: u32,
-    first: u32,
-    i: u32,
-    callees: &mut [u32],
-) -> u32
-    requires { Callees text.now tables.now class callees.old }
-    ensures value { result ≡ call_at text.now tables.now class first i }
-    ensures callees { Callees text.now tables.now class callees.new }
-{
-    let place = first as usize + i as usize;
-    let known = memory::get(callees, place);
-    if known == 0 {
-        let line = line_of(text, tables, first, i);
-        let number = vector_direct::line_callee(text, tables, class, line);
-        memory::put(callees, place, number + 1);
+    // The number of what statement i of a run calls on an object of the class; found and kept where it is not kept yet.
+    pub(crate) fn callee_of(&mut self, class: &Class<'_>, first: u32, i: u32) -> u32
+        requires { Kept class.now self.old }
+        ensures value { result ≡ call_at class.now.text.now class.now.tables.now class.now.number first i }
+        ensures memory { Kept class.now self.new }
+    {
+        let statement = first as usize + i as usize;
+        if let Some(number) = self.callee(statement) {
+            return number;
+        }
+        let line = line_of(class.text, class.tables, first, i);
+        let number = vector_direct::line_callee(class.text, class.tables, class.number, line);
+        self.keep_callee(statement, number);
         number
-    } else {
-        known - 1
     }
 }

@@ -1,5 +1,5 @@
 -- A loop over words that gathers the fields they mention: what is gathered, together with what the remaining words mention, is all.
-use Rattle.std.specs.Prelude.{ℕ, ◌<◌, ◌≡◌, Bool, false, ◌&&◌, ◌||◌, length, drop}
+use Rattle.std.specs.Prelude.{ℕ, ◌≡◌, Bool, false, ◌&&◌, ◌||◌}
 use Rattle.std.proofs.Math.Path.{sym, ap, ap₂}
 use Rattle.std.proofs.Common.{◌∙◌}
 use Rattle.std.proofs.Math.Bool.{or-false, or_assoc}
@@ -8,14 +8,8 @@ use Rattle.std.specs.Int.Bits.{bit_or}
 use Rattle.model.specs.Base.{same}
 use Rattle.model.specs.Word.{Name, is_name}
 use Rattle.model.specs.Image.{mask}
-use Rattle.text_lex.specs.Piece.{words_after, first, end_after, cons_after}
 use Rattle.vector_direct.specs.Masks.{mask_same, mask_none, mask_or}
 use Rattle.vector_direct.specs.Mentions.{counts, mentions, mentions_behind}
-
--- A turn of any loop over words: the word after the place p, which ends at e, and the words that follow it.
-pub word_step : (s : List ℕ) (p e : ℕ) (w : List ℕ) → p < length s → w ≡ first (words_after (drop p s)) → e ≡ end_after 32 s p
-    → words_after (drop p s) ≡ w ∷ words_after (drop e s)
-word_step s p e w h k q = cons_after 32 s p h ∙ ap₂ (λ (v : List ℕ) (j : ℕ). v ∷ words_after (drop j s)) (sym k) (sym q)
 
 pub record Gathered (fields : List Name) (keyword : List ℕ) (usual : Bool) (all : Name → Bool) (sum : ℕ) (on : Bool) (left : List (List ℕ)) : Type 0 where
   pub met : Name → Bool

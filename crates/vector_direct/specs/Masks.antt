@@ -2,7 +2,7 @@
 use Prim.Native.Nat.{ℕ, zero, suc, ◌+◌, ◌-◌, ◌*◌, ◌/◌, ◌%◌, ◌^◌, min, max, ◌≤◌, ◌<◌}
 use Rattle.std.specs.Prelude.{◌≡◌, Bool, true, false, ◌&&◌, ◌||◌}
 use Rattle.std.proofs.Math.Path.{refl, ap}
-use Rattle.std.proofs.Common.{sym, ap₂, ◌∙◌, not-suc-le-zero, pow-suc, pow_pos, shl_exact}
+use Rattle.std.proofs.Common.{sym, ap₂, ◌∙◌, not-suc-le-zero, pow-suc, pow_pos}
 use Rattle.std.proofs.Math.Bool.{not}
 use mathlib.Core.List.{List, [], ◌∷◌, ◌++◌, map}
 use native.Mathlib.Omega.{arith}
@@ -112,11 +112,8 @@ mask_more t n =
     ∙ ap (λ (k : ℕ). mask (upto t n) + digit (t n) * 2 ^ k) e ∙ m
     ∙ sym (or_shifted_r (digit (t n)) n (mask (upto t n)) l)
 
--- The two branches of a turn, as the code shifts the bit.
+-- The branch of a turn that sets no bit.
 module _ (m k : ℕ) (t : Bool) where
-  pub bit_in : k < 32 → t ≡ true → bit_or m ((1 * 2 ^ k) % 2 ^ 32) ≡ bit_or m (digit t * 2 ^ k)
-  bit_in h e = ap (bit_or m) (shl_exact {a = 1} 1 k 32 (omega arith) (omega arith) ∙ ap (λ (b : Bool). digit b * 2 ^ k) (sym e))
-
   pub bit_out : t ≡ false → m ≡ bit_or m (digit t * 2 ^ k)
   bit_out e =
       let z : digit t * 2 ^ k ≡ 0 = ap (λ (b : Bool). digit b * 2 ^ k) e ∙ omega arith in

@@ -1,10 +1,10 @@
 -- How the vertex that a line calls is found by places: the end of its `send`, the point in its target, the method's place.
 use Prim.Native.Nat.{ℕ, ◌+◌, ◌*◌, ◌≤◌, ◌<◌}
-use Rattle.std.specs.Prelude.{◌≡◌, Bool, not, ◌&&◌, length, take, drop}
+use Rattle.std.specs.Prelude.{◌≡◌, Bool, length, take, drop}
 use Rattle.std.proofs.Math.Path.{refl, sym, ap}
 use Rattle.std.proofs.Common.{ap₂, ◌∙◌, arith, take_all}
 use Rattle.std.proofs.Math.Bool.{true, false, cond}
-use mathlib.Core.List.{List, ◌∷◌}
+use mathlib.Core.List.{List, [], ◌∷◌}
 use Rattle.std.proofs.Math.Dec.{ltb}
 use borrow.Author.Tests.{ltb-true, ltb-false, lt-ltb, le-ltb}
 use Rattle.model.specs.Base.{bytes, same, any}
@@ -14,7 +14,7 @@ use Rattle.model.specs.Form.{form_of}
 use Rattle.model.specs.Library.{Library, Member, Class, class_at, member_place, among, class_number}
 use Rattle.model.specs.Graph.{callee}
 use Rattle.text_lex.specs.Scan.{is_byte, before}
-use Rattle.text_lex.specs.Piece.{pieces_after, words_after, first, first_piece, none_after, cons_after}
+use Rattle.text_lex.specs.Piece.{pieces_after, first, first_piece, none_after, cons_after}
 use Rattle.catalog.specs.View.{class_count, member_count, members_of, class_of, library_of}
 use Rattle.catalog.specs.Look.{shown_count, member_count_law, class_at_law, class_past, among_place, shown_class}
 use Rattle.vector_direct.specs.Calls.{number_of, number_in, behind_send, target_in, called_behind}
@@ -30,11 +30,9 @@ pub send_look : (w : List ℕ) (ws left : List (List ℕ)) (found : Bool) → ws
 unfolding behind_send
 send_look w ws left found q e = ap (λ (t : Bool). send_left t left) e ∙ ap behind_send (sym q)
 
-pub send_done : (line : List ℕ) (at : ℕ) (found : Bool) → (not found && ltb at (length line)) ≡ false
-    → words_after (drop at line) ≡ send_left found (words_after (drop at line))
+pub send_none : (ws : List (List ℕ)) → ws ≡ [] → [] ≡ behind_send ws
 unfolding behind_send
-send_done line at true e = refl
-send_done line at false e = let n = none_after 32 line at (ltb-false at (length line) e) in n ∙ ap behind_send (sym n)
+send_none ws e = sym (ap behind_send e)
 
 -- ---- the target
 
@@ -94,24 +92,29 @@ module _ (text ws : List ℕ) (c : ℕ) where
         let t : ltb (member_place (members_of text ws c 1) n) (shown_count ws c 1) ≡ false = le-ltb (member_place (members_of text ws c 1) n) (shown_count ws c 1) (omega arith) in
         sym (ap (λ (b : Bool). cond b (c * 32 + member_place (class_at (library_of text ws) c).methods n) 512) (has_method n ∙ t))
 
+    pub number_missing : member_count ws c 1 ≤ place → ◌≡◌ {A = ℕ} 512 (number_of (library_of text ws) (record { class = c; method = n }))
+    unfolding shown_count
+    number_missing h = number_unknown (go (ltb c (class_count ws)))
+      where
+        go : (t : Bool) → cond t (member_count ws c 1) 0 ≤ place
+        go true = h
+        go false = omega arith
+
 -- ---- the line
 
-module _ (l : Library) (c : ℕ) (line : List ℕ) (at : ℕ) (behind : words_after (drop at line) ≡ behind_send (words line)) where
-  pub callee_found : (w : List ℕ) (r : ℕ) → is_statement (form_of (words line)) ≡ true → at < length line → w ≡ first (words_after (drop at line))
+-- The words ws follow the line's `send`.
+module _ (l : Library) (c : ℕ) (line : List ℕ) (ws : List (List ℕ)) (behind : ws ≡ behind_send (words line)) where
+  pub callee_found : (w : List ℕ) (rest : List (List ℕ)) (r : ℕ) → is_statement (form_of (words line)) ≡ true → ws ≡ w ∷ rest
       → r ≡ number_of l (target_in l c (pieces 46 w)) → r ≡ number_in l (callee l c (statement_of line).action)
-  callee_found w r s h e k =
-      k ∙ ap (λ (v : List ℕ). number_of l (target_in l c (pieces 46 v))) e
-      ∙ ap (λ (ws : List (List ℕ)). number_in l (called_behind l c ws)) (sym (cons_after 32 line at h) ∙ behind)
-      ∙ line_calls line l c s
+  callee_found w rest r s e k =
+      k ∙ ap (λ (vs : List (List ℕ)). number_in l (called_behind l c vs)) (sym e ∙ behind) ∙ line_calls line l c s
 
   pub callee_idle : is_statement (form_of (words line)) ≡ false → ◌≡◌ {A = ℕ} 512 (number_in l (callee l c (statement_of line).action))
   callee_idle e = line_calls_none line l c e
 
-  pub callee_none : length line ≤ at → ◌≡◌ {A = ℕ} 512 (number_in l (callee l c (statement_of line).action))
+  pub callee_none : ws ≡ [] → ◌≡◌ {A = ℕ} 512 (number_in l (callee l c (statement_of line).action))
   callee_none h = go (is_statement (form_of (words line))) refl
     where
       go : (s : Bool) → is_statement (form_of (words line)) ≡ s → ◌≡◌ {A = ℕ} 512 (number_in l (callee l c (statement_of line).action))
-      go true e =
-          ap (λ (ws : List (List ℕ)). number_in l (called_behind l c ws)) (sym (none_after 32 line at h) ∙ behind)
-          ∙ line_calls line l c e
+      go true e = ap (λ (vs : List (List ℕ)). number_in l (called_behind l c vs)) (sym h ∙ behind) ∙ line_calls line l c e
       go false e = callee_idle e

@@ -2,7 +2,7 @@
 // depends on and of those that it changes, and the number of the method that it calls on its own object.
 #![tactic(auto)]
 
-ghost use Rattle.std.specs.Prelude.{◌*◌, ◌%◌, ◌^◌, ◌≡◌, ◌&&◌, map, drop};
+ghost use Rattle.std.specs.Prelude.{◌*◌, ◌%◌, ◌^◌, ◌≡◌, ◌&&◌, map};
 ghost use Rattle.std.specs.Int.Bits.{bit_or};
 ghost use Rattle.model.specs.Base.{same, digit};
 ghost use Rattle.model.specs.Text.{pieces, words};
@@ -11,7 +11,7 @@ ghost use Rattle.model.specs.Form.{form_of};
 ghost use Rattle.model.specs.Graph.{callee};
 ghost use Rattle.model.specs.Vector.{in_statement};
 ghost use Rattle.model.specs.Image.{mask};
-ghost use Rattle.text_lex.specs.Piece.{words_after};
+ghost use Rattle.text_lex.specs.Words.{left};
 ghost use Rattle.catalog.specs.View.{library_of};
 ghost use Rattle.vector_direct.specs.Fields.{fields_in};
 ghost use Rattle.vector_direct.specs.Mentions.{counts, mentions_behind};
@@ -19,6 +19,10 @@ ghost use Rattle.vector_direct.specs.Calls.{number_of, number_in, behind_send, t
 ghost use Rattle.vector_direct.specs.Says.{Says, joined_vector};
 ghost use Rattle.vector_direct.specs.Lines.{statement_of, is_statement};
 
+use text_lex::Words;
+use text_syntax::form::Kind;
+
+// No method: the definitions `number_of` and `number_in`, which the clauses hold, give it this number.
 const NONE: u32 = 512;
 
 const POINT: u8 = 46;
@@ -51,36 +55,6 @@ pub fn with_bit(mask: u32, place: u32, test: bool) -> u32
     }
 }
 
-// The mask of the class's fields that the word names.
-fn field_mask(text: &[u8], tables: &[u32], class: u32, word: &[u8]) -> u32
-    ensures { result ≡ mask (map (λ f. same f word.now) (fields_in text.now tables.now class)) }
-{
-    let count = catalog::shown_count(tables, class, 0);
-    let mut mask = 0;
-    let mut place = 0;
-    while place < count {
-        let named = catalog::is_named(text, catalog::member_word(tables, class, 0, place), word);
-        mask = with_bit(mask, place, named);
-        place += 1;
-    }
-    mask
-}
-
-// The same for a word that counts and is a name; no field for any other.
-fn counted_mask(text: &[u8], tables: &[u32], class: u32, word: &[u8], on: bool) -> u32
-    ensures { result ≡ mask (map (λ f. on && is_name word.now && same f word.now) (fields_in text.now tables.now class)) }
-{
-    if on {
-        if text_lex::is_name(word) {
-            field_mask(text, tables, class, word)
-        } else {
-            0
-        }
-    } else {
-        0
-    }
-}
-
 // Whether the word after this one counts: as usual, and the opposite after the keyword and after `add`.
 fn counts(word: &[u8], keyword: &[u8], usual: bool) -> bool
     ensures { result ≡ counts keyword.now usual word.now }
@@ -92,43 +66,81 @@ fn counts(word: &[u8], keyword: &[u8], usual: bool) -> bool
     }
 }
 
-// The fields named by those words after the line's first that count.
-fn mentioned(
-    text: &[u8],
-    tables: &[u32],
-    class: u32,
-    line: &[u8],
-    keyword: &[u8],
-    usual: bool,
-) -> u32
-    ensures { result ≡ mask (map (mentions_behind keyword.now usual (words line.now)) (fields_in text.now tables.now class)) }
-{
-    let mut at = text_lex::word_end(line, 0);
-    let mut on = counts(&line[..at], keyword, usual);
-    let mut mask = 0;
-    while at < line.len() {
-        let word = text_lex::word_after(line, at);
-        mask = mask | counted_mask(text, tables, class, word, on);
-        on = counts(word, keyword, usual);
-        at = text_lex::word_end_after(line, at);
+// A class in the tables, by its number: the one whose fields and methods a line may name.
+#[derive(Clone, Copy)]
+struct Class<'a> {
+    text: &'a [u8],
+    tables: &'a [u32],
+    number: u32,
+}
+
+impl Class<'_> {
+    // The mask of the class's fields that the word names.
+    fn field_mask(&self, word: &[u8]) -> u32
+        ensures { result ≡ mask (map (λ f. same f word.now) (fields_in self.now.text.now self.now.tables.now self.now.number)) }
+    {
+        let count = catalog::shown_count(self.tables, self.number, layout::FIELDS);
+        let mut mask = 0;
+        for place in 0..count {
+            let named = catalog::is_named(
+                self.text,
+                catalog::member_word(self.tables, self.number, layout::FIELDS, place),
+                word,
+            );
+            mask = with_bit(mask, place, named);
+        }
+        mask
     }
-    mask
+
+    // The same for a word that counts and is a name; no field for any other.
+    fn counted_mask(&self, word: &[u8], on: bool) -> u32
+        ensures { result ≡ mask (map (λ f. on && is_name word.now && same f word.now) (fields_in self.now.text.now self.now.tables.now self.now.number)) }
+    {
+        if on && text_lex::is_name(word) {
+            self.field_mask(word)
+        } else {
+            0
+        }
+    }
+
+    // The fields named by those words after the line's first that count.
+    fn mentioned(&self, line: &[u8], keyword: &[u8], usual: bool) -> u32
+        ensures { result ≡ mask (map (mentions_behind keyword.now usual (words line.now)) (fields_in self.now.text.now self.now.tables.now self.now.number)) }
+    {
+        let first = text_lex::word_end(line, 0);
+        let mut on = counts(&line[..first], keyword, usual);
+        let mut mask = 0;
+        for word in text_lex::words_after(line, first) {
+            mask |= self.counted_mask(word, on);
+            on = counts(word, keyword, usual);
+        }
+        mask
+    }
+
+    // The number of the method that `M` or `C.M` names on an object of the class.
+    fn target_number(&self, target: &[u8]) -> u32
+        ensures { result ≡ number_of (library_of self.now.text.now self.now.tables.now) (target_in (library_of self.now.text.now self.now.tables.now) self.now.number (pieces 46 target.now)) }
+    {
+        let point = text_lex::piece_end(target, 0, POINT);
+        if point < target.len() {
+            let other = catalog::class_number(self.text, self.tables, &target[..point]);
+            method_number(
+                self.text,
+                self.tables,
+                other,
+                text_lex::piece_after(target, point, POINT),
+            )
+        } else {
+            method_number(self.text, self.tables, self.number, target)
+        }
+    }
 }
 
 // Whether the line is a statement.
 fn is_statement(line: &[u8]) -> bool
     ensures { result ≡ is_statement (form_of (words line.now)) }
 {
-    let kind = text_syntax::form::kind_of(line);
-    match kind {
-        text_syntax::form::Kind::Class => false,
-        text_syntax::form::Kind::Field => false,
-        text_syntax::form::Kind::Method => false,
-        text_syntax::form::Kind::Statement => true,
-        text_syntax::form::Kind::End => false,
-        text_syntax::form::Kind::Object => false,
-        text_syntax::form::Kind::Malformed => false,
-    }
+    matches!(text_syntax::form::kind_of(line), Some(Kind::Statement))
 }
 
 // The vector of the line's statement over the fields of a class; empty for a line that is no statement.
@@ -136,9 +148,14 @@ pub fn line_vector(text: &[u8], tables: &[u32], class: u32, line: &[u8]) -> Vect
     ensures { Says (fields_in text.now tables.now class) (λ f. in_statement f (statement_of line.now)) result }
 {
     if is_statement(line) {
+        let own = Class {
+            text,
+            tables,
+            number: class,
+        };
         Vector {
-            depends: mentioned(text, tables, class, line, b"send", true),
-            changes: mentioned(text, tables, class, line, b"set", false),
+            depends: own.mentioned(line, b"send", true),
+            changes: own.mentioned(line, b"set", false),
         }
     } else {
         Vector {
@@ -148,46 +165,31 @@ pub fn line_vector(text: &[u8], tables: &[u32], class: u32, line: &[u8]) -> Vect
     }
 }
 
-// Where the line's first word `send` ends; the line's end where it has none.
-fn send_end(line: &[u8]) -> usize
-    ensures { words_after (drop result line.now) ≡ behind_send (words line.now) }
+// The words after the line's first word `send`; none where it has none.
+fn behind_send(line: &[u8]) -> Words<'_>
+    ensures { left result ≡ behind_send (words line.now) }
 {
-    let mut at = text_lex::word_end(line, 0);
-    let mut found = text_lex::same(&line[..at], b"send");
-    while !found & (at < line.len()) {
-        found = text_lex::same(text_lex::word_after(line, at), b"send");
-        at = text_lex::word_end_after(line, at);
+    let first = text_lex::word_end(line, 0);
+    let mut words = text_lex::words_after(line, first);
+    if text_lex::same(&line[..first], b"send") {
+        return words;
     }
-    at
+    while let Some(word) = words.next() {
+        if text_lex::same(word, b"send") {
+            return words;
+        }
+    }
+    words
 }
 
 // The number of a class's method by name: 32 for each class before, plus its place; 512 where the class has no such method.
 pub fn method_number(text: &[u8], tables: &[u32], class: u32, name: &[u8]) -> u32
     ensures { result ≡ number_of (library_of text.now tables.now) (record { class = class; method = name.now }) }
 {
-    let place = catalog::find(text, tables, class, 1, name);
-    if place < catalog::shown_count(tables, class, 1) {
-        class * 32 + place
-    } else {
-        NONE
-    }
-}
-
-// The number of the method that `M` or `C.M` names on an object of the class.
-fn target_number(text: &[u8], tables: &[u32], class: u32, target: &[u8]) -> u32
-    ensures { result ≡ number_of (library_of text.now tables.now) (target_in (library_of text.now tables.now) class (pieces 46 target.now)) }
-{
-    let point = text_lex::piece_end(target, 0, POINT);
-    if point < target.len() {
-        let other = catalog::class_number(text, tables, &target[..point]);
-        method_number(
-            text,
-            tables,
-            other,
-            text_lex::piece_after(target, point, POINT),
-        )
-    } else {
-        method_number(text, tables, class, target)
+    let count = catalog::shown_count(tables, class, layout::METHODS);
+    match catalog::find(text, tables, class, layout::METHODS, name) {
+        Some(place) if place < count => class * 32 + place,
+        _ => NONE,
     }
 }
 
@@ -195,14 +197,15 @@ fn target_number(text: &[u8], tables: &[u32], class: u32, target: &[u8]) -> u32
 pub fn line_callee(text: &[u8], tables: &[u32], class: u32, line: &[u8]) -> u32
     ensures { result ≡ number_in (library_of text.now tables.now) (callee (library_of text.now tables.now) class (statement_of line.now).action) }
 {
-    let at = send_end(line);
-    if at < line.len() {
-        if is_statement(line) {
-            target_number(text, tables, class, text_lex::word_after(line, at))
-        } else {
-            NONE
+    match behind_send(line).next() {
+        Some(target) if is_statement(line) => {
+            let own = Class {
+                text,
+                tables,
+                number: class,
+            };
+            own.target_number(target)
         }
-    } else {
-        NONE
+        _ => NONE,
     }
 }

@@ -24,8 +24,8 @@ returns-then-line-slot_end c =
     let e = c.word_end-keyword_end in
     let f = c.word_end_after-slot_end in
     says_as (lending a.text.now a.state.now a.values.now) (call_line (words s))
-    (line_slot s e.result e.ensures c.word_after.ensures (sym (ap said c.in-Value.is) ∙ c.number_of-number.ensures)
-    ∙ ap (slot_then (take e.result s) (some c.in-Value.slot)) (sym (behind 32 s e.result f.result f.ensures refl) ∙ none_after 32 s f.result c.if-line-slot_end.true))
+    (line_slot s e.result e.ensures c.word_after.ensures (sym (ap said c.in-Some.is) ∙ c.number_of-number.ensures)
+    ∙ ap (slot_then (take e.result s) (some c.in-Some.slot)) (sym (behind 32 s e.result f.result f.ensures refl) ∙ none_after 32 s f.result c.if-line-slot_end.true))
     c.slot_call.ensures
 
 pub returns-else-line-slot_end : goal.returns-else-line-slot_end
@@ -35,17 +35,17 @@ returns-else-line-slot_end c =
     let e = c.word_end-keyword_end in
     let f = c.word_end_after-slot_end in
     let k = take e.result s in
-    let n = c.in-Value.slot in
+    let n = c.in-Some.slot in
     let b = behind 32 s e.result f.result f.ensures refl in
     says_as (lending a.text.now a.state.now a.values.now) (call_line (words s))
-    (line_slot s e.result e.ensures c.word_after.ensures (sym (ap said c.in-Value.is) ∙ c.number_of-number.ensures)
+    (line_slot s e.result e.ensures c.word_after.ensures (sym (ap said c.in-Some.is) ∙ c.number_of-number.ensures)
     ∙ ap (slot_then k (some n)) (sym b)
     ∙ slot_more k n (words_after (drop f.result s)) (cons_after 32 s f.result c.if-line-slot_end.false))
     c.send_line.ensures
 
-pub returns-in-NoNumber : goal.returns-in-NoNumber
-returns-in-NoNumber c =
+pub returns-in_default : goal.returns-in_default
+returns-in_default c =
     let a = c.args in
     let s = a.line.now in
     let e = c.word_end-keyword_end in
-    says_none (lending a.text.now a.state.now a.values.now) (call_line (words s)) (line_slot s e.result e.ensures c.word_after.ensures (sym (ap said c.in-NoNumber.is) ∙ c.number_of-number.ensures)) c.put_bytes.ensures
+    says_none (lending a.text.now a.state.now a.values.now) (call_line (words s)) (line_slot s e.result e.ensures c.word_after.ensures (sym (ap said c.in_default.is) ∙ c.number_of-number.ensures)) c.put_bytes.ensures

@@ -22,7 +22,7 @@ returns-then-is_named c =
     let L = c.loop-i in
     let w = c.get.ensures ∙ ap (λ (i : ℕ). get_or a.tables.now i 0) L.invariant.2 in
     let hit = told (named a.text.now a.name.now) w c.is_named.ensures c.if-is_named.true in
-    sym (seek_here (named a.text.now a.name.now) (word a.tables.now a.from a.step) L.i L.invariant.3 hit a.count (omega arith))
+    (sym (seek_here (named a.text.now a.name.now) (word a.tables.now a.from a.step) L.i L.invariant.3 hit a.count (omega arith)), omega arith)
 
 pub loop-i-preserved : goal.loop-i-preserved
 loop-i-preserved c =
@@ -43,4 +43,5 @@ unfolding first_named
 returns c =
     let a = c.args in
     let L = c.loop-i in
-    sym (seek_end (named a.text.now a.name.now) (word a.tables.now a.from a.step) L.i L.invariant.3 a.count (omega arith))
+    let e = seek_end (named a.text.now a.name.now) (word a.tables.now a.from a.step) L.i L.invariant.3 a.count (omega arith) in
+    omega (arith, e)

@@ -5,4 +5,4 @@ use Rattle.catalog.proofs.member_count.Goals as goal
 
 pub returns : goal.returns
 unfolding member_count class_word
-returns c = omega (arith, c.get-count.ensures, c.least.ensures)
+returns c = omega (arith, c.get-count.ensures, c.min.ensures)

@@ -1,12 +1,15 @@
--- `object_number` meets its contract: the objects' names stand four words apart.
+-- `object_number` meets its contract: the names stand a row apart.
 use Prim.Native.Nat.{ℕ}
 use mathlib.Core.Path.{ap, ◌∙◌}
 use Rattle.layout.specs.Layout.{object_words, objects_at}
-use Rattle.catalog.specs.Look.{first_named, named_object}
+use Rattle.catalog.specs.Look.{first_named, first_named_le, found_or, named_object}
 use Rattle.catalog.proofs.object_number.Goals as goal
 
 pub returns : goal.returns
 returns c =
     let a = c.args in
-    c.first_named.ensures ∙ ap (λ (k : ℕ). first_named a.text.now a.tables.now objects_at object_words k a.name.now) c.object_count.ensures
+    let n = c.object_count-count.result in
+    let le = first_named_le a.text.now a.tables.now objects_at object_words n a.name.now in
+    c.unwrap_or.ensures ∙ found_or c.first_named-found.result _ n c.first_named-found.ensures le
+    ∙ ap (λ (k : ℕ). first_named a.text.now a.tables.now objects_at object_words k a.name.now) c.object_count-count.ensures
     ∙ named_object a.text.now a.tables.now a.name.now

@@ -9,7 +9,7 @@ use Rattle.image.proofs.method_count.Goals as goal
 
 pub loop-class-init : goal.loop-class-init
 unfolding total
-loop-class-init c = (omega arith, omega (arith, c.class_count-classes.ensures), refl)
+loop-class-init c = refl
 
 pub overflow_add-count : goal.overflow_add-count
 overflow_add-count c =
@@ -19,4 +19,4 @@ overflow_add-count c =
 pub loop-class-preserved : goal.loop-class-preserved
 loop-class-preserved c =
     let ws = c.args.tables.now in
-    (omega arith, c.loop-class.invariant.1, omega (arith, c.member_count-count.ensures, total_more (λ c₁. member_count ws c₁ 1) c.loop-class.class))
+    omega (arith, c.member_count-count.ensures, total_more (λ c₁. member_count ws c₁ 1) c.loop-class.class)

@@ -1,4 +1,3 @@
-use Prim.Native.Nat.{◌-◌, ◌≤◌}
 use mathlib.Core.Path.{◌≡◌}
 use Rattle.catalog.specs.View.{member_count}
 use Rattle.output.specs.Each.{total}
@@ -6,7 +5,4 @@ use Rattle.image.proofs.method_count.Given as goal
 
 abbrev pub invariant-loop-class : goal.invariant-loop-class
 invariant-loop-class l =
-    (l.class ≤ l.classes) × (l.classes ≤ 16) × (l.count ≡ total (λ c. member_count l.tables c 1) l.class)
-
-abbrev pub decreases-loop-class : goal.decreases-loop-class
-decreases-loop-class l = l.classes - l.class
+    l.count ≡ total (λ c. member_count l.tables c 1) l.class

@@ -11,21 +11,21 @@ use Rattle.image.proofs.put_places.Goals as goal
 use Rattle.image.proofs.put_places.Invariants.{place_at}
 
 pub loop-statement-init : goal.loop-statement-init
-loop-statement-init c = (omega arith, omega (arith, c.statement_count-count.ensures), each_first _ _ _)
+loop-statement-init c = each_first _ _ _
 
 pub put_pair-end-requires : goal.put_pair-end-requires
 put_pair-end-requires c =
     let ws = c.args.tables.now in
-    omega (arith, c.loop-statement.invariant.2.behind, each_le 8 (place_at ws) c.loop-statement.statement (λ s. omega arith))
+    omega (arith, c.statement_count-count.ensures, c.loop-statement.invariant.behind, each_le 8 (place_at ws) c.loop-statement.statement (λ s. omega arith))
 
 pub loop-statement-preserved : goal.loop-statement-preserved
 unfolding statement_word
 loop-statement-preserved c =
-    (omega arith, c.loop-statement.invariant.1, each_next _ c.loop-statement.statement c.loop-statement.invariant.2 (appended_as (ap place_bytes c.get-word.ensures) c.put_pair-end.ensures))
+    each_next _ c.loop-statement.statement c.loop-statement.invariant (appended_as (ap place_bytes c.get-word.ensures) c.put_pair-end.ensures)
 
 pub returns : goal.returns
 unfolding places_from
 returns c =
     let ws = c.args.tables.now in
     let e : c.loop-statement.statement ≡ statement_count ws = omega (arith, c.statement_count-count.ensures) in
-    appended_as (ap (λ (n : ℕ). flat_map (place_at ws) (numbers n)) e) c.loop-statement.invariant.2
+    appended_as (ap (λ (n : ℕ). flat_map (place_at ws) (numbers n)) e) c.loop-statement.invariant

@@ -1,4 +1,4 @@
-use Prim.Native.Nat.{ℕ, ◌-◌, ◌≤◌}
+use Prim.Native.Nat.{ℕ}
 use mathlib.Core.List.{List, flat_map}
 use Rattle.catalog.specs.View.{statement_word}
 use Rattle.output.specs.Each.{numbers}
@@ -11,7 +11,4 @@ place_at ws s = place_bytes (statement_word ws s)
 
 abbrev pub invariant-loop-statement : goal.invariant-loop-statement
 invariant-loop-statement l =
-    (l.statement ≤ l.count) × (l.count ≤ 4096) × Appended (flat_map (place_at l.tables) (numbers l.statement)) l.initial.image l.at l.end l.image
-
-abbrev pub decreases-loop-statement : goal.decreases-loop-statement
-decreases-loop-statement l = l.count - l.statement
+    Appended (flat_map (place_at l.tables) (numbers l.statement)) l.initial.image l.at l.end l.image

@@ -19,7 +19,7 @@ counted c =
 
 pub loop-object-init : goal.loop-object-init
 unfolding total
-loop-object-init c = (omega arith, omega (arith, c.object_count-objects.ensures), refl)
+loop-object-init c = refl
 
 pub overflow_add-count : goal.overflow_add-count
 overflow_add-count c =
@@ -29,4 +29,4 @@ overflow_add-count c =
 pub loop-object-preserved : goal.loop-object-preserved
 loop-object-preserved c =
     let ws = c.args.tables.now in
-    (omega arith, c.loop-object.invariant.1, omega (arith, counted (goal.at.loop-object-preserved c).After-shown_count-count, total_more (fields_of ws) c.loop-object.object))
+    omega (arith, counted (goal.at.loop-object-preserved c).After-shown_count-count, total_more (fields_of ws) c.loop-object.object)

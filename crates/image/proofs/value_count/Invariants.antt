@@ -1,4 +1,4 @@
-use Prim.Native.Nat.{ℕ, ◌-◌, ◌≤◌}
+use Prim.Native.Nat.{ℕ}
 use mathlib.Core.Path.{◌≡◌}
 use mathlib.Core.List.{List}
 use Rattle.layout.specs.Layout.{object_class_at}
@@ -12,7 +12,4 @@ fields_of ws o = shown_count ws (object_word ws o object_class_at) 0
 
 abbrev pub invariant-loop-object : goal.invariant-loop-object
 invariant-loop-object l =
-    (l.object ≤ l.objects) × (l.objects ≤ 64) × (l.count ≡ total (fields_of l.tables) l.object)
-
-abbrev pub decreases-loop-object : goal.decreases-loop-object
-decreases-loop-object l = l.objects - l.object
+    l.count ≡ total (fields_of l.tables) l.object

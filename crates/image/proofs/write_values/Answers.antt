@@ -11,20 +11,20 @@ use Rattle.image.specs.Sizes.{starting_le}
 use Rattle.image.proofs.write_values.Goals as goal
 
 pub loop-object-init : goal.loop-object-init
-loop-object-init c = (omega arith, omega (arith, c.object_count-objects.ensures), each_first _ _ _)
+loop-object-init c = each_first _ _ _
 
 pub put_values-at-requires : goal.put_values-at-requires
 put_values-at-requires c =
     let a = c.args in
-    omega (arith, c.loop-object.invariant.2.behind, starting_le a.text.now a.tables.now c.loop-object.object)
+    omega (arith, c.loop-object.invariant.behind, starting_le a.text.now a.tables.now c.loop-object.object)
 
 pub loop-object-preserved : goal.loop-object-preserved
 loop-object-preserved c =
-    (omega arith, c.loop-object.invariant.1, each_next _ c.loop-object.object c.loop-object.invariant.2 c.put_values-at.ensures)
+    each_next _ c.loop-object.object c.loop-object.invariant c.put_values-at.ensures
 
 pub returns : goal.returns
 unfolding starting_from
 returns c =
     let a = c.args in
     let e : c.loop-object.object ≡ object_count a.tables.now = omega (arith, c.object_count-objects.ensures) in
-    appended_over (appended_as (ap (λ (n : ℕ). flat_map (values_from a.text.now a.tables.now) (numbers n)) e) c.loop-object.invariant.2)
+    appended_over (appended_as (ap (λ (n : ℕ). flat_map (values_from a.text.now a.tables.now) (numbers n)) e) c.loop-object.invariant)

@@ -1,4 +1,3 @@
-use Prim.Native.Nat.{◌-◌, ◌≤◌}
 use mathlib.Core.List.{flat_map}
 use Rattle.output.specs.Each.{numbers}
 use Rattle.image.specs.Written.{values_from}
@@ -7,7 +6,4 @@ use Rattle.image.proofs.write_values.Given as goal
 
 abbrev pub invariant-loop-object : goal.invariant-loop-object
 invariant-loop-object l =
-    (l.object ≤ l.objects) × (l.objects ≤ 64) × Appended (flat_map (values_from l.text l.tables) (numbers l.object)) l.initial.values 0 l.at l.values
-
-abbrev pub decreases-loop-object : goal.decreases-loop-object
-decreases-loop-object l = l.objects - l.object
+    Appended (flat_map (values_from l.text l.tables) (numbers l.object)) l.initial.values 0 l.at l.values

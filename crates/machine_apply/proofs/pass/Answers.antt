@@ -9,5 +9,5 @@ unfolding passed
 returns c =
     let row = c.args.row.now in
     let next = c.act-next.ensures ∙ ap (λ (n : ℕ). act row n next_at) c.top-activation.ensures in
-    let more = c.wrapping_add_u32.ensures.value ∙ ap (λ (n : ℕ). (n + 1) % 4294967296) next in
+    let more = ap (λ (n : ℕ). (n + 1) % 4294967296) next in
     c.put_act.ensures ∙ ap₂ (λ (n v : ℕ). with_act row n next_at v) c.top-activation.ensures more

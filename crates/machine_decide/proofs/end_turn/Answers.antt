@@ -18,10 +18,10 @@ returns-then-object-object_count c =
     let text = a.text.now in
     let tables = a.tables.now in
     c.next_turn.ensures
-    ∙ ap (λ (n : ℕ). next_turn text tables n c.object_from-object.result c.wrapping_add_u32-sum.result) c.get-then-object-object_count.ensures
+    ∙ ap (λ (n : ℕ). next_turn text tables n c.object_from-object.result ((c.get.result + a.value) % 4294967296)) c.get-then-object-object_count.ensures
     ∙ end_next text tables a.row.now a.value _ _ c.get-kind.ensures c.get-number.ensures
     (sym c.target_there.ensures ∙ not-false c.target_there.result (ap not c.if-not-target_there.false)) _ _ _
-    (c.wrapping_add_u32-sum.ensures.value ∙ ap (λ (n : ℕ). (n + a.value) % 4294967296) c.get.ensures)
+    (ap (λ (n : ℕ). (n + a.value) % 4294967296) c.get.ensures)
     (c.object_from-object.ensures ∙ ap (λ (n : ℕ). object_from tables c.get-kind.result c.get-number.result (n + 1)) c.get-from.ensures)
     c.object_count.ensures c.if-object-object_count.true
 
@@ -31,6 +31,6 @@ returns-else-object-object_count c =
     let tables = a.tables.now in
     end_answer a.text.now tables a.row.now a.value _ _ c.get-kind.ensures c.get-number.ensures
     (sym c.target_there.ensures ∙ not-false c.target_there.result (ap not c.if-not-target_there.false)) _ _ _
-    (c.wrapping_add_u32-sum.ensures.value ∙ ap (λ (n : ℕ). (n + a.value) % 4294967296) c.get.ensures)
+    (ap (λ (n : ℕ). (n + a.value) % 4294967296) c.get.ensures)
     (c.object_from-object.ensures ∙ ap (λ (n : ℕ). object_from tables c.get-kind.result c.get-number.result (n + 1)) c.get-from.ensures)
     c.object_count.ensures c.if-object-object_count.false

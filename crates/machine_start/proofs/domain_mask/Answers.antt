@@ -11,20 +11,17 @@ use Rattle.machine_start.proofs.domain_mask.Goals as goal
 
 pub loop-other-init : goal.loop-other-init
 unfolding upto mask
-loop-other-init c = (omega arith, omega (arith, c.class_count-count.ensures), refl)
+loop-other-init c = refl
 
 pub loop-other-preserved : goal.loop-other-preserved
 loop-other-preserved c =
-    let a = c.args in (
-      omega arith,
-      c.loop-other.invariant.1,
-      mask_turn (belongs a.tables.now a.class) c.loop-other.other c.loop-other.mask c.with_bit-mask.result c.belongs.result (omega arith)
-          c.loop-other.invariant.2 c.belongs.ensures c.with_bit-mask.ensures,
-    )
+    let a = c.args in
+    mask_turn (belongs a.tables.now a.class) c.loop-other.other c.loop-other.mask c.with_bit-mask.result c.belongs.result (omega (arith, c.class_count-count.ensures))
+    c.loop-other.invariant c.belongs.ensures c.with_bit-mask.ensures
 
 pub returns : goal.returns
 unfolding domain_mask
 returns c =
     let a = c.args in
     let e : c.loop-other.other ≡ class_count a.tables.now = omega (arith, c.class_count-count.ensures) in
-    c.loop-other.invariant.2 ∙ ap (λ (k : ℕ). mask (upto (belongs a.tables.now a.class) k)) e
+    c.loop-other.invariant ∙ ap (λ (k : ℕ). mask (upto (belongs a.tables.now a.class) k)) e

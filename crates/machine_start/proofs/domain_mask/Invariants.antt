@@ -1,4 +1,3 @@
-use Prim.Native.Nat.{◌-◌, ◌≤◌}
 use mathlib.Core.Path.{◌≡◌}
 use Rattle.model.specs.Base.{upto}
 use Rattle.model.specs.Image.{mask}
@@ -6,7 +5,4 @@ use Rattle.machine_start.specs.Worked.{belongs}
 use Rattle.machine_start.proofs.domain_mask.Given as goal
 
 abbrev pub invariant-loop-other : goal.invariant-loop-other
-invariant-loop-other l = (l.other ≤ l.count) × (l.count ≤ 16) × (l.mask ≡ mask (upto (belongs l.tables l.class) l.other))
-
-abbrev pub decreases-loop-other : goal.decreases-loop-other
-decreases-loop-other l = l.count - l.other
+invariant-loop-other l = l.mask ≡ mask (upto (belongs l.tables l.class) l.other)

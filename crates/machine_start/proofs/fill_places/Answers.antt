@@ -22,21 +22,19 @@ counted c =
 
 pub loop-object-init : goal.loop-object-init
 unfolding with_each first_value total
-loop-object-init c = (omega arith, omega (arith, c.object_count-count.ensures), refl, refl)
+loop-object-init c = (refl, refl)
 
 pub overflow_add-values : goal.overflow_add-values
 overflow_add-values c =
     let ws = c.args.tables.now in
     let k = c.loop-object.tables in
-    omega (arith, counted (goal.at.overflow_add-values c).After-shown_count-fields, shown_le k (object_word k c.loop-object.object object_class_at) 0, c.loop-object.invariant.3, first_le ws c.loop-object.object)
+    omega (arith, c.object_count-count.ensures, counted (goal.at.overflow_add-values c).After-shown_count-fields, shown_le k (object_word k c.loop-object.object object_class_at) 0, c.loop-object.invariant.1, first_le ws c.loop-object.object)
 
 pub loop-object-preserved : goal.loop-object-preserved
 loop-object-preserved c =
     let ws = c.args.tables.now in
     let n = c.loop-object.object in
     let v = c.loop-object.values in (
-      omega arith,
-      c.loop-object.invariant.1,
-      c.put_object_word.ensures ∙ ap (λ (l : List ℕ). set l (objects_at + (n * object_words + 2)) v) c.loop-object.invariant.2 ∙ places_more ws n v c.loop-object.invariant.3,
-      values_more ws n v c.shown_count-fields.result (omega arith) c.loop-object.invariant.3 (counted (goal.at.loop-object-preserved c).After-shown_count-fields ∙ ap (λ (l : List ℕ). values_of l n) c.loop-object.invariant.2),
+      c.put_object_word.ensures ∙ ap (λ (l : List ℕ). set l (objects_at + (n * object_words + 2)) v) c.loop-object.invariant.0 ∙ places_more ws n v c.loop-object.invariant.1,
+      values_more ws n v c.shown_count-fields.result (omega (arith, c.object_count-count.ensures)) c.loop-object.invariant.1 (counted (goal.at.loop-object-preserved c).After-shown_count-fields ∙ ap (λ (l : List ℕ). values_of l n) c.loop-object.invariant.0),
     )

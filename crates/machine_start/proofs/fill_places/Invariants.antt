@@ -1,11 +1,7 @@
-use Prim.Native.Nat.{◌-◌, ◌≤◌}
 use mathlib.Core.Path.{◌≡◌}
 use Rattle.machine_start.specs.Worked.{first_value, with_places}
 use Rattle.machine_start.proofs.fill_places.Given as goal
 
 abbrev pub invariant-loop-object : goal.invariant-loop-object
 invariant-loop-object l =
-    (l.object ≤ l.count) × (l.count ≤ 64) × (l.tables ≡ with_places l.initial.tables l.object) × (l.values ≡ first_value l.initial.tables l.object)
-
-abbrev pub decreases-loop-object : goal.decreases-loop-object
-decreases-loop-object l = l.count - l.object
+    (l.tables ≡ with_places l.initial.tables l.object) × (l.values ≡ first_value l.initial.tables l.object)

@@ -20,7 +20,7 @@ loop-word-preserved c =
     let O = c.args.row.now in
     let at = marks_at + c.loop-word.word in
     let e =
-    word_cleared O c.requires c.loop-word.row c.loop-word.word (omega arith) c.loop-word.invariant.2 (get_or c.loop-word.row at 0) (omega (arith, c.slice_known-else-unmarked-1.given at)) refl
+    word_cleared O c.requires c.loop-word.row c.loop-word.word (omega arith) c.loop-word.invariant.2 (get_or c.loop-word.row at 0) (omega arith) refl
     c.clear_marked.new.row c.clear_marked.ensures in
     (omega arith, ap length e ∙ over_length (word_at (c.loop-word.word + 1)) (unnoted O) O (unnoted_length O), e)
 

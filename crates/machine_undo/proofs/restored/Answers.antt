@@ -12,9 +12,7 @@ returns-then-sets-place-eq1 c =
 pub returns-then-place-lt-VALUES : goal.returns-then-place-lt-VALUES
 returns-then-place-lt-VALUES c =
     let a = c.args in
-    let note = notes_at + a.place in
-    let less = c.wrapping_sub_u32 in
-    less_is a.value (get_or a.row.now note 0) less.result c.ranges.value.fits (omega (arith, c.shared_slice_known-then-place-lt-VALUES-1.given note)) (omega (arith, less.type_inv)) less.ensures.value
+    less_is a.value (get_or a.row.now (notes_at + a.place) 0) _ (omega arith) (omega arith) (omega arith) (omega arith)
     ∙ back_less a.row.now a.place a.value (omega arith) c.if-sets-place-eq1.false
 
 pub returns : goal.returns

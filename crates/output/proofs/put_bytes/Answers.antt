@@ -12,7 +12,6 @@ use Rattle.output.proofs.put_bytes.Goals as goal
 one_more : (bytes : List ℕ) (i : ℕ) → i + 1 ≤ length bytes → take i bytes ++ (get_or bytes i 0 ∷ []) ≡ take (i + 1) bytes
 one_more bytes i h = rw (add-one, take-suc bytes i 0 (omega arith))
 
-pub loop-i-preserved : goal.loop-i-preserved
-loop-i-preserved c =
-    let a = c.args in
-    (omega arith, appended_as (one_more a.bytes.now c.loop-i.i (omega arith)) (appended_then c.loop-i.invariant.1 c.put_byte-end.ensures))
+pub loop-byte-preserved : goal.loop-byte-preserved
+loop-byte-preserved c =
+    appended_as (one_more c.args.bytes.now c.loop-byte.byte-index (omega arith)) (appended_then c.loop-byte.invariant c.put_byte-end.ensures)

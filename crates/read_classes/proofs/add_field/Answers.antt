@@ -1,30 +1,30 @@
 -- `read_classes::add_field` meets its contract: a name that the class has is refused, and any other is appended.
-use borrow.Author.Tests.{lt-ltb, le-ltb}
+use Rattle.std.specs.Prelude.{is_err, Result, Ok, Err, IsOkUnless, true, false, refl}
+use Rattle.refusals.specs.Numbers.{fault_in}
+use Rattle.refusals.specs.declared.Fault.{Fault}
+use Rattle.refusals.specs.declared.Fault.TheVariants.{TooMany}
+use Rattle.read_classes.specs.Made.{FieldAdded}
 use mathlib.Core.Path.{◌≡◌}
-use mathlib.Core.Bool.{Bool}
-use lib.Dec.{ltb}
 use Rattle.model.specs.Library.{among}
-use Rattle.catalog.specs.View.{name_of, members_of}
-use Rattle.read_classes.proofs.RowLaws.{present}
+use Rattle.catalog.specs.View.{members_of}
+use Rattle.laws.specs.Upto.{told}
 use Rattle.read_classes.proofs.FieldLaws.{field_known, field_over, field_made}
 use Rattle.read_classes.proofs.add_field.Goals as goal
-use Rattle.read_classes.proofs.add_field.Goals.{After-member_count}
 
--- Whether the class has the field, as the test of its place tells.
-known : (m : After-member_count) {t : Bool} → ltb m.find.result m.member_count.result ≡ t
-    → let a = m.args in
-    among (members_of a.text.now a.tables.now a.class 0) (name_of a.text.now a.word) ≡ t
-known m =
-    let a = m.args in
-    present a.text.now a.tables.now a.class 0 a.word m.name_of-name.ensures m.find.ensures m.member_count.ensures
-
-pub returns-then-find-member_count : goal.returns-then-find-member_count
-returns-then-find-member_count c = field_known _ _ _ _ (known (goal.at.returns-then-find-member_count c).After-member_count (lt-ltb _ _ c.if-find-member_count.true)) _
-
-pub returns-then-append : goal.returns-then-append
-returns-then-append c =
-    field_over _ _ _ _ (known (goal.at.returns-then-append c).After-member_count (le-ltb _ _ c.if-find-member_count.false)) _ _ (c.append.ensures _) c.if-append.true
+pub returns-then-has_member : goal.returns-then-has_member
+returns-then-has_member c =
+    let a = c.args in
+    field_known _ _ _ _ (told (among (members_of a.text.now a.tables.now a.class 0)) c.name_of-name.ensures c.has_member.ensures c.if-has_member.true) _
 
 pub returns : goal.returns
 returns c =
-    field_made _ _ _ _ (known (goal.at.returns c).After-member_count (le-ltb _ _ c.if-find-member_count.false)) _ _ (c.append.ensures _) c.if-append.false
+    let a = c.args in
+    let new = told (among (members_of a.text.now a.tables.now a.class 0)) c.name_of-name.ensures c.has_member.ensures c.if-has_member.false in
+    go c.append.result c.append.ensures.fault (λ over. field_over _ _ _ _ new _ _ (c.append.ensures.row _) over)
+    (λ made. field_made _ _ _ _ new _ _ (c.append.ensures.row _) made)
+  where
+    go : (r : Result (Unit {0}) Fault) → IsOkUnless r TooMany → (is_err r ≡ true → FieldAdded c.args.text.now c.args.tables.now c.args.class c.args.word 17 c.append.new.tables)
+        → (is_err r ≡ false → FieldAdded c.args.text.now c.args.tables.now c.args.class c.args.word 0 c.append.new.tables)
+        → FieldAdded c.args.text.now c.args.tables.now c.args.class c.args.word (fault_in r) c.append.new.tables
+    go (Ok x) f h k = k refl
+    go (Err e) f h k = rw f (h refl)

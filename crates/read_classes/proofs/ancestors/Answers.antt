@@ -3,55 +3,47 @@ use mathlib.Core.Path.{sym, ap, ◌∙◌}
 use mathlib.Core.Bool.{Bool, ◌||◌}
 use mathlib.Core.List.{List}
 use native.Mathlib.Omega.{arith}
-use lib.ListN.{drop}
 use Rattle.model.specs.Base.{any}
 use Rattle.model.specs.Word.{Name}
 use Rattle.model.specs.Library.{above}
-use Rattle.text_lex.specs.Piece.{words_after, none_after}
 use Rattle.laws.specs.Bits.{bit, bit_zero}
 use Rattle.catalog.specs.View.{library_of}
 use Rattle.catalog.specs.Look.{class_number_within}
-use Rattle.read_parents.specs.Walk.{end_within_line, words_behind}
+use Rattle.text_lex.specs.Words.{left}
 use Rattle.read_classes.proofs.AncestorLaws.{or_false, above_turn}
 use Rattle.read_classes.proofs.ancestors.Goals as goal
 
-pub loop-place-init : goal.loop-place-init
-loop-place-init c =
-    let a = c.args in
-    λ d. ap (λ (t : Bool). t || above (library_of a.text.now a.tables.now) (words_after a.names.now) d) (bit_zero d)
+pub loop-name-init : goal.loop-name-init
+loop-name-init c =
+    let l = library_of c.args.text.now c.args.tables.now in
+    let all = ap left c.into_iter-name-iterator.ensures.into_iter_gives ∙ c.words_after-name-items.ensures in
+    record {
+      can = tt;
+      ends = tt;
+      same = λ d. ap (λ (t : Bool). t || above l (left c.into_iter-name-iterator.result) d) (bit_zero d) ∙ ap (λ (ps : List Name). above l ps d) all;
+    }
 
 pub with_ancestors-mask-requires : goal.with_ancestors-mask-requires
 with_ancestors-mask-requires c =
     let a = c.args in
-    omega (arith, c.class_number-parent.ensures, class_number_within a.text.now a.tables.now c.word_after.result.now)
+    omega (arith, c.class_number.ensures, class_number_within a.text.now a.tables.now c.in-Some.name.now)
 
-pub loop-place-smaller : goal.loop-place-smaller
-loop-place-smaller c =
-    let n = c.word_after in
-    let a = c.args in
-    let s = a.names.now in
-    let q = c.loop-place.place in
-    omega (arith, end_within_line s q (omega arith) c.word_end_after-place.result c.word_end_after-place.ensures)
-
-pub loop-place-preserved : goal.loop-place-preserved
-loop-place-preserved c =
-    let n = c.word_after in
-    let a = c.args in
-    let s = a.names.now in
-    let q = c.loop-place.place in
-    let e = c.word_end_after-place in
-    let l = library_of a.text.now a.tables.now in
-    let k = c.class_number-parent in
-    λ d. above_turn l n.result.now (words_after (drop e.result s)) c.loop-place.mask c.with_ancestors-mask.result k.result d k.ensures
-    (c.with_ancestors-mask.ensures a.text.now d)
-    ∙ ap (λ (ps : List Name). bit c.loop-place.mask d || above l ps d) (sym (words_behind s q (omega arith) n.result.now n.ensures e.result e.ensures))
-    ∙ c.loop-place.invariant d
+pub loop-name-preserved : goal.loop-name-preserved
+loop-name-preserved c =
+    let l = library_of c.args.text.now c.args.tables.now in
+    record {
+      can = tt;
+      ends = tt;
+      same = λ d. above_turn l c.in-Some.name.now (left c.next.new.self) c.loop-name.mask c.with_ancestors-mask.result c.class_number.result d c.class_number.ensures
+          (c.with_ancestors-mask.ensures c.args.text.now d)
+          ∙ ap (λ (ps : List Name). bit c.loop-name.mask d || above l ps d) (sym c.in-Some.ensures.steps)
+          ∙ c.loop-name.invariant.same d;
+    }
 
 pub returns : goal.returns
 unfolding above any
 returns c =
-    let a = c.args in
-    λ d. or_false (bit c.loop-place.mask d)
-    ∙ ap (λ (ps : List Name). bit c.loop-place.mask d || above (library_of a.text.now a.tables.now) ps d)
-    (sym (none_after 32 a.names.now c.loop-place.place c.loop-place-test.false))
-    ∙ c.loop-place.invariant d
+    let l = library_of c.args.text.now c.args.tables.now in
+    λ d. or_false (bit c.loop-name.mask d)
+    ∙ ap (λ (ps : List Name). bit c.loop-name.mask d || above l ps d) (sym c.in-None.ensures.steps.0)
+    ∙ c.loop-name.invariant.same d

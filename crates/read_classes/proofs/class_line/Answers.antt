@@ -4,4 +4,4 @@ use Rattle.read_classes.proofs.class_line.Goals as goal
 
 pub returns : goal.returns
 returns c =
-    λ line n ps e. c.take_class.ensures line n ps (form_cut _ _ _ c.least-stop.ensures c.least.ensures e)
+    λ line n ps e. c.take_class.ensures line n ps (form_cut _ _ _ c.clip.ensures.end c.clip.ensures.start e)

@@ -1,4 +1,3 @@
-use Prim.Native.Nat.{◌-◌, ◌≤◌}
 use mathlib.Core.Path.{◌≡◌}
 use Rattle.model.specs.Base.{upto}
 use Rattle.model.specs.Library.{joined}
@@ -7,8 +6,4 @@ use Rattle.catalog.specs.Frames.{Kept}
 use Rattle.read_classes.proofs.join.Given as goal
 
 abbrev pub invariant-loop-j : goal.invariant-loop-j
-invariant-loop-j l = (l.j ≤ l.count) ×
-    (Kept l.initial.tables l.class l.kind l.tables × (members_of l.text l.tables l.class l.kind ≡ joined (members_of l.text l.initial.tables l.class l.kind) (upto (member_at l.text l.initial.tables l.parent l.kind) l.j)))
-
-abbrev pub decreases-loop-j : goal.decreases-loop-j
-decreases-loop-j l = l.count - l.j
+invariant-loop-j l = Kept l.initial.tables l.class l.kind l.tables × (members_of l.text l.tables l.class l.kind ≡ joined (members_of l.text l.initial.tables l.class l.kind) (upto (member_at l.text l.initial.tables l.parent l.kind) l.j))

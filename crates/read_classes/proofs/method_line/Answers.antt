@@ -4,4 +4,4 @@ use Rattle.read_classes.proofs.method_line.Goals as goal
 
 pub returns : goal.returns
 returns c =
-    λ line n e. c.take_method.ensures line n (form_cut _ _ _ c.least-stop.ensures c.least.ensures e)
+    λ line n e. c.take_method.ensures line n (form_cut _ _ _ c.clip.ensures.end c.clip.ensures.start e)

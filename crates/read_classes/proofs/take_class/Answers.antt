@@ -11,7 +11,7 @@ pub slice_bounds-add_class-count : goal.slice_bounds-add_class-count
 slice_bounds-add_class-count c =
     let q = c.word_end_after-behind in
     let p = c.word_end_after-name_end in
-    let s = line_of c.args.text.now c.args.at c.args.end in
+    let s = line_of c.args.text.now c.args.place.now.start c.args.place.now.end in
     end_after_within s p.result q.result q.ensures
     (end_after_within s c.word_end.result p.result p.ensures (omega (arith, c.word_end.ensures, before_le (is_byte 32) s)))
 
@@ -19,7 +19,7 @@ pub slice_bounds-add_class-start : goal.slice_bounds-add_class-start
 slice_bounds-add_class-start c =
     let q = c.word_end_after-behind in
     let p = c.word_end_after-name_end in
-    let s = line_of c.args.text.now c.args.at c.args.end in
+    let s = line_of c.args.text.now c.args.place.now.start c.args.place.now.end in
     end_after_within s p.result q.result q.ensures
     (end_after_within s c.word_end.result p.result p.ensures (omega (arith, c.word_end.ensures, before_le (is_byte 32) s)))
 
@@ -30,7 +30,7 @@ returns c =
     let a = c.args in
     λ line n ps e.
     took_named (library_of a.text.now a.tables.now) line
-    (ap (name_of a.text.now) c.name_behind-word.ensures ∙ class_name a.text.now a.at a.end c.requires.order c.requires.within c.requires.small n 0 ps e)
-    (class_parents a.text.now a.at a.end c.requires.order c.requires.within n ps c.word_end.result p.result q.result e
+    (ap (name_of a.text.now) c.name_behind-word.ensures ∙ class_name a.text.now a.place.now.start a.place.now.end c.requires.order c.requires.within c.requires.small n 0 ps e)
+    (class_parents a.text.now a.place.now.start a.place.now.end c.requires.order c.requires.within n ps c.word_end.result p.result q.result e
     c.word_end.ensures p.ensures q.ensures)
     (c.add_class.ensures line)

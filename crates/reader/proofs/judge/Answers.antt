@@ -2,7 +2,8 @@
 -- over all lines answers. Each statement so far took 8 bytes, so there is room for the next.
 use borrow.Author.Rules.{rules}
 use Prim.Native.Nat.{◌<◌}
-use mathlib.Core.Path.{sym, ap, ◌∙◌}
+use mathlib.Core.Path.{refl, sym, ap, ◌∙◌}
+use Rattle.read_classes.specs.Took.{fault_some}
 use native.Mathlib.Omega.{arith}
 use lib.ListN.{length}
 use Rattle.layout.specs.Layout.{statements_most}
@@ -28,27 +29,27 @@ loop-end-init c =
     let n = ap (λ (l : Library). length l.statements) e in
     (omega arith, c.line_end-end.ensures, search rules, omega (arith, n), ap (λ (l : Library). judged l 1 (lines_at s 0)) e)
 
-pub returns-then-fault-ne0 : goal.returns-then-fault-ne0
+pub returns-in-Err : goal.returns-in-Err
 unfolding lines_at
-returns-then-fault-ne0 c =
+returns-in-Err c =
     let l = c.loop-end in
     let s = c.args.text.now in
     sym l.invariant.4
     ∙ judged_fault s l.at l.end l.invariant.1 c.loop-end-test.true l.tables
-    c.take_line-fault.result c.take_line-fault.new.tables (c.take_line-fault.ensures (room (goal.at.returns-then-fault-ne0 c).After-take_line-arg-1)) l.number c.if-fault-ne0.true
+    _ c.take_line.new.tables (c.in-Err.ensures (room (goal.at.returns-in-Err c).After-take_line-arg-1)) l.number (fault_some _)
 
 pub loop-end-preserved : goal.loop-end-preserved
 loop-end-preserved c =
     let l = c.loop-end in
     let s = c.args.text.now in
-    let took = c.take_line-fault.ensures (room (goal.at.loop-end-preserved c).After-take_line-arg-1) in (
+    let took = c.in_default.ensures (room (goal.at.loop-end-preserved c).After-take_line-arg-1) in (
       omega arith,
       c.line_end-end-in-loop-end.ensures,
       search rules,
       statements_within s l.at l.end l.invariant.1 c.loop-end-test.true l.tables
-          c.take_line-fault.result c.take_line-fault.new.tables took c.if-fault-ne0.false l.invariant.3,
+          0 c.take_line.new.tables took refl l.invariant.3,
       judged_more s l.at l.end l.invariant.1 c.loop-end-test.true l.tables
-          c.take_line-fault.result c.take_line-fault.new.tables took l.number c.if-fault-ne0.false ∙ l.invariant.4,
+          0 c.take_line.new.tables took l.number refl ∙ l.invariant.4,
     )
 
 pub returns : goal.returns

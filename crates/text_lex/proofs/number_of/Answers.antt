@@ -1,24 +1,14 @@
 -- `text_lex::number_of` meets its contract: at each turn the value of the digits left, following n, is the value of the word, and
 -- they are all digits iff the word's are.
-use Prim.Native.Nat.{ℕ, ◌+◌, ◌-◌, ◌*◌, ◌<◌}
-use mathlib.Core.Path.{◌≡◌, sym, ap, subst, ◌∙◌}
+use mathlib.Core.Path.{sym, ap, ◌∙◌}
 use mathlib.Core.Option.{some}
 use native.Mathlib.Omega.{arith}
-use lib.ListN.{drop}
-use Rattle.model.specs.Word.{is_digit, decimal}
+use lib.ListN.{get_or}
+use Rattle.model.specs.Word.{is_digit}
+use Rattle.text_lex.specs.Number.{said}
 use Rattle.text_lex.proofs.ListLaws.{every_end, every_stop, every_more}
-use Rattle.text_lex.proofs.NumberLaws.{decimal_end, decimal_more, decimal_large, ill_begun, no_digits, too_large, says}
+use Rattle.text_lex.proofs.NumberLaws.{decimal_end, ill_begun, no_digits, says, digit_range, read_on, overflow}
 use Rattle.text_lex.proofs.number_of.Goals as goal
-use Rattle.text_lex.proofs.number_of.Goals.{After-wide}
-
--- With the digit read added to n, the digits left still give the value of the word.
-said-on : (c : After-wide)
-    → decimal (10 * c.loop-i.n + c.wide.result - 48) (drop (c.loop-i.i + 1) c.args.word.now)
-    ≡ decimal 0 c.args.word.now
-said-on c =
-    let w = c.args.word.now in
-    let l = c.loop-i in
-    ap (λ (b : ℕ). decimal (10 * l.n + b - 48) (drop (l.i + 1) w)) c.wide.ensures ∙ sym (decimal_more l.n w l.i (omega arith)) ∙ l.invariant.1
 
 pub returns-then-not-well_begun : goal.returns-then-not-well_begun
 returns-then-not-well_begun c = sym (ill_begun _ (sym c.well_begun.ensures ∙ c.if-not-well_begun.true))
@@ -27,22 +17,39 @@ pub returns-then-not-is_digit : goal.returns-then-not-is_digit
 returns-then-not-is_digit c =
     let w = c.args.word.now in
     let e = sym c.is_digit.ensures ∙ c.if-not-is_digit.true in
-    sym (no_digits w (sym c.loop-i.invariant.2 ∙ every_stop is_digit w c.loop-i.i (omega arith) e))
+    sym (no_digits w (sym c.loop-byte.invariant.digits ∙ every_stop is_digit w c.loop-byte.byte-index (omega arith) e))
 
-pub returns-then-n-gt4294967295 : goal.returns-then-n-gt4294967295
-returns-then-n-gt4294967295 c = sym (too_large _ (subst (λ (n : ℕ). 4294967295 < n) (said-on (goal.at.returns-then-n-gt4294967295 c).After-wide) (decimal_large _ _ c.if-n-gt4294967295.true)))
-
-pub loop-i-preserved : goal.loop-i-preserved
-loop-i-preserved c =
+pub returns-in_err-checked_mul : goal.returns-in_err-checked_mul
+returns-in_err-checked_mul c =
     let w = c.args.word.now in
-    let l = c.loop-i in
+    let l = c.loop-byte in
+    let d = digit_range (get_or w l.byte-index 0) (sym c.is_digit.ensures ∙ c.if-not-is_digit.false) in
+    ap said c.from_residual.ensures ∙ sym (overflow l.n w l.byte-index l.invariant.value c.loop-byte-test.true (omega (arith, c.in_err-checked_mul.ensures)))
+
+pub returns-in_err-n : goal.returns-in_err-n
+returns-in_err-n c =
+    let w = c.args.word.now in
+    let l = c.loop-byte in
+    let d = digit_range (get_or w l.byte-index 0) (sym c.is_digit.ensures ∙ c.if-not-is_digit.false) in
+    ap said c.from_residual-in_err-n.ensures
+    ∙ sym (overflow l.n w l.byte-index l.invariant.value c.loop-byte-test.true (omega (arith, c.in_ok-checked_mul.ensures, c.from.ensures, c.in_err-n.ensures)))
+
+pub loop-byte-preserved : goal.loop-byte-preserved
+loop-byte-preserved c =
+    let w = c.args.word.now in
+    let l = c.loop-byte in
     let e = sym c.is_digit.ensures ∙ c.if-not-is_digit.false in
-    (c.if-n-gt4294967295.false, said-on (goal.at.loop-i-preserved c).After-wide, sym (every_more is_digit w l.i (omega arith) e) ∙ l.invariant.2)
+    let d = digit_range (get_or w l.byte-index 0) e in
+    record {
+      fits = omega (arith, c.in_ok-n.ensures);
+      value = read_on l.n w l.byte-index l.invariant.value c.loop-byte-test.true c.in_ok-n.n (omega (arith, c.in_ok-checked_mul.ensures, c.from.ensures, c.in_ok-n.ensures));
+      digits = sym (every_more is_digit w l.byte-index (omega arith) e) ∙ l.invariant.digits;
+    }
 
 pub returns : goal.returns
 returns c =
     let w = c.args.word.now in
-    let l = c.loop-i in
-    let n = sym (decimal_end l.n w l.i (omega arith)) ∙ l.invariant.1 in
-    let e = sym l.invariant.2 ∙ every_end is_digit w l.i (omega arith) in
+    let l = c.loop-byte in
+    let n = sym (decimal_end l.n w l.byte-index (omega arith)) ∙ l.invariant.value in
+    let e = sym l.invariant.digits ∙ every_end is_digit w l.byte-index (omega arith) in
     ap some n ∙ sym (says w (sym c.well_begun.ensures ∙ c.if-not-well_begun.false) e (omega arith))

@@ -17,4 +17,5 @@ loop-i-preserved c =
 pub returns : goal.returns
 returns c =
     let a = c.args in
-    omega (arith, before_end (is_byte a.divider) a.text.now c.loop-i.i (omega arith))
+    let p = is_byte a.divider in
+    grind (arith, before_end p a.text.now c.loop-i.i (omega arith), before_end p a.text.now a.at)

@@ -14,7 +14,7 @@ use Rattle.call_lines.proofs.objects.put_lines.Goals as goal
 
 pub loop-object-init : goal.loop-object-init
 unfolding lines_to values_to upto objects_printed
-loop-object-init c = (omega arith, omega (arith, c.object_count-objects.ensures), omega arith, refl, omega arith, appended_none c.args.out.now c.args.at)
+loop-object-init c = (omega arith, refl, omega arith, appended_none c.args.out.now c.args.at)
 
 pub loop-object-preserved : goal.loop-object-preserved
 loop-object-preserved c =
@@ -22,15 +22,13 @@ loop-object-preserved c =
     let l = c.loop-object in
     let ws = a.tables.now in
     let next = c.shown_count.ensures ∙ ap (λ (k : ℕ). shown_count ws k 0) c.class_of.ensures in (
-      omega (arith, c.loop-object-test),
-      l.invariant.1,
-      omega (arith, l.invariant.2, c.put_line-end.ensures.behind, object_few a.text.now ws l.object (drop l.base a.values.now)),
-      omega (arith, l.invariant.3, next, values_next a.text.now ws l.object),
-      omega (arith, l.invariant.4, c.shown_count.ensures, shown_le ws c.class_of.result 0),
+      omega (arith, l.invariant.0, c.put_line-end.ensures.behind, object_few a.text.now ws l.object (drop l.base a.values.now)),
+      omega (arith, l.invariant.1, next, values_next a.text.now ws l.object),
+      omega (arith, l.invariant.2, c.shown_count.ensures, shown_le ws c.class_of.result 0),
       appended_as
-          (ap (λ (b : ℕ). lines_to a.text.now ws a.values.now l.object ++ object_printed a.text.now ws l.object (drop b a.values.now)) l.invariant.3
+          (ap (λ (b : ℕ). lines_to a.text.now ws a.values.now l.object ++ object_printed a.text.now ws l.object (drop b a.values.now)) l.invariant.1
           ∙ sym (lines_next a.text.now ws a.values.now l.object))
-          (appended_then l.invariant.5 c.put_line-end.ensures),
+          (appended_then l.invariant.3 c.put_line-end.ensures),
     )
 
 pub returns : goal.returns
@@ -38,5 +36,5 @@ unfolding lines_to library_of
 returns c =
     let a = c.args in
     let l = c.loop-object in
-    let e : l.object ≡ object_count a.tables.now = omega (arith, l.invariant.0, c.loop-object-test, c.object_count-objects.ensures) in
-    appended_as (ap (λ (n : ℕ). lines_to a.text.now a.tables.now a.values.now n) e) l.invariant.5
+    let e : l.object ≡ object_count a.tables.now = omega (arith, c.object_count-objects.ensures) in
+    appended_as (ap (λ (n : ℕ). lines_to a.text.now a.tables.now a.values.now n) e) l.invariant.3

@@ -3,7 +3,7 @@ use Rattle.catalog.specs.Bodies.{by_place, by_name}
 use Rattle.catalog.proofs.body.body_at.Goals as goal
 
 pub returns-then-named_at : goal.returns-then-named_at
-returns-then-named_at c = by_place _ _ _ _ _ _ c.named_at.ensures c.if-named_at.true _ _ (c.body_of-body.ensures _)
+returns-then-named_at c = by_place _ _ _ _ _ _ c.named_at.ensures c.if-named_at.true _ (c.body_of.ensures _)
 
 pub returns-else-named_at : goal.returns-else-named_at
 returns-else-named_at c =

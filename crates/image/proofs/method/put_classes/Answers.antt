@@ -11,20 +11,20 @@ use Rattle.image.specs.Cells.{methods_from, classes_le}
 use Rattle.image.proofs.method.put_classes.Goals as goal
 
 pub loop-class-init : goal.loop-class-init
-loop-class-init c = (omega arith, omega (arith, c.class_count-count.ensures), each_first _ _ _)
+loop-class-init c = each_first _ _ _
 
 pub put_methods-end-requires : goal.put_methods-end-requires
 put_methods-end-requires c =
     let a = c.args in
-    omega (arith, c.loop-class.invariant.2.behind, classes_le a.text.now a.tables.now a.part c.loop-class.class)
+    omega (arith, c.loop-class.invariant.behind, classes_le a.text.now a.tables.now a.part c.loop-class.class)
 
 pub loop-class-preserved : goal.loop-class-preserved
 loop-class-preserved c =
-    (omega arith, c.loop-class.invariant.1, each_next _ c.loop-class.class c.loop-class.invariant.2 c.put_methods-end.ensures)
+    each_next _ c.loop-class.class c.loop-class.invariant c.put_methods-end.ensures
 
 pub returns : goal.returns
 unfolding each_method
 returns c =
     let a = c.args in
     let e : c.loop-class.class ≡ class_count a.tables.now = omega (arith, c.class_count-count.ensures) in
-    appended_as (ap (λ (n : ℕ). flat_map (methods_from a.text.now a.tables.now a.part) (numbers n)) e) c.loop-class.invariant.2
+    appended_as (ap (λ (n : ℕ). flat_map (methods_from a.text.now a.tables.now a.part) (numbers n)) e) c.loop-class.invariant

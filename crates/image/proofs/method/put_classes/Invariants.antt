@@ -1,4 +1,3 @@
-use Prim.Native.Nat.{◌-◌, ◌≤◌}
 use mathlib.Core.List.{flat_map}
 use Rattle.output.specs.Each.{numbers}
 use Rattle.output.specs.Append.{Appended}
@@ -7,7 +6,4 @@ use Rattle.image.proofs.method.put_classes.Given as goal
 
 abbrev pub invariant-loop-class : goal.invariant-loop-class
 invariant-loop-class l =
-    (l.class ≤ l.count) × (l.count ≤ 16) × Appended (flat_map (methods_from l.text l.tables l.part) (numbers l.class)) l.initial.out l.at l.end l.out
-
-abbrev pub decreases-loop-class : goal.decreases-loop-class
-decreases-loop-class l = l.count - l.class
+    Appended (flat_map (methods_from l.text l.tables l.part) (numbers l.class)) l.initial.out l.at l.end l.out

@@ -11,18 +11,16 @@ use Rattle.image.proofs.method.put_marks.Goals as goal
 
 pub loop-place-init : goal.loop-place-init
 unfolding upto
-loop-place-init c = (omega arith, appended_none _ _)
+loop-place-init c = appended_none _ _
 
 pub put_byte-end-requires : goal.put_byte-end-requires
 put_byte-end-requires c =
     let a = c.args in
-    omega (arith, c.loop-place.invariant.1.behind, length_upto (mark_of a.first a.second a.third a.marks.now) c.loop-place.place)
+    omega (arith, c.loop-place.invariant.behind, length_upto (mark_of a.first a.second a.third a.marks.now) c.loop-place.place)
 
 pub loop-place-preserved : goal.loop-place-preserved
 loop-place-preserved c =
     let a = c.args in
-    let f = mark_of a.first a.second a.third a.marks.now in (
-      omega arith,
-      appended_as (ap (λ (b : ℕ). upto f c.loop-place.place ++ (b ∷ [])) c.mark-byte.ensures ∙ sym (upto_more f c.loop-place.place))
-          (appended_then c.loop-place.invariant.1 c.put_byte-end.ensures),
-    )
+    let f = mark_of a.first a.second a.third a.marks.now in
+    appended_as (ap (λ (b : ℕ). upto f c.loop-place.place ++ (b ∷ [])) c.mark-byte.ensures ∙ sym (upto_more f c.loop-place.place))
+    (appended_then c.loop-place.invariant c.put_byte-end.ensures)

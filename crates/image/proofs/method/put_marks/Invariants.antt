@@ -1,4 +1,3 @@
-use Prim.Native.Nat.{◌-◌, ◌≤◌}
 use Rattle.model.specs.Base.{upto}
 use Rattle.output.specs.Append.{Appended}
 use Rattle.image.specs.Cells.{mark_of}
@@ -6,7 +5,4 @@ use Rattle.image.proofs.method.put_marks.Given as goal
 
 abbrev pub invariant-loop-place : goal.invariant-loop-place
 invariant-loop-place l =
-    (l.place ≤ l.count) × Appended (upto (mark_of l.first l.second l.third l.marks) l.place) l.initial.out l.at l.end l.out
-
-abbrev pub decreases-loop-place : goal.decreases-loop-place
-decreases-loop-place l = l.count - l.place
+    Appended (upto (mark_of l.first l.second l.third l.marks) l.place) l.initial.out l.at l.end l.out

@@ -6,14 +6,13 @@ use Rattle.image.proofs.method.put_methods.Goals as goal
 
 pub loop-method-init : goal.loop-method-init
 loop-method-init c =
-    let a = c.args in
-    (omega arith, omega (arith, c.member_count-count.ensures, members_le a.tables.now a.class 1), each_first _ _ _)
+    each_first _ _ _
 
 pub put_cell-end-requires : goal.put_cell-end-requires
 put_cell-end-requires c =
     let a = c.args in
-    (omega arith, omega (arith, c.loop-method.invariant.2.behind, methods_le a.text.now a.tables.now a.part a.class c.loop-method.method))
+    (omega (arith, c.member_count-count.ensures, members_le a.tables.now a.class 1), omega (arith, c.loop-method.invariant.behind, c.member_count-count.ensures, members_le a.tables.now a.class 1, methods_le a.text.now a.tables.now a.part a.class c.loop-method.method))
 
 pub loop-method-preserved : goal.loop-method-preserved
 loop-method-preserved c =
-    (omega arith, c.loop-method.invariant.1, each_next _ c.loop-method.method c.loop-method.invariant.2 c.put_cell-end.ensures)
+    each_next _ c.loop-method.method c.loop-method.invariant c.put_cell-end.ensures

@@ -1,4 +1,3 @@
-use Prim.Native.Nat.{◌-◌, ◌≤◌}
 use mathlib.Core.List.{flat_map}
 use Rattle.output.specs.Each.{numbers}
 use Rattle.output.specs.Append.{Appended}
@@ -7,7 +6,4 @@ use Rattle.image.proofs.method.put_methods.Given as goal
 
 abbrev pub invariant-loop-method : goal.invariant-loop-method
 invariant-loop-method l =
-    (l.method ≤ l.count) × (l.count ≤ 32) × Appended (flat_map (cell_from l.text l.tables l.part l.class) (numbers l.method)) l.initial.out l.at l.end l.out
-
-abbrev pub decreases-loop-method : goal.decreases-loop-method
-decreases-loop-method l = l.count - l.method
+    Appended (flat_map (cell_from l.text l.tables l.part l.class) (numbers l.method)) l.initial.out l.at l.end l.out

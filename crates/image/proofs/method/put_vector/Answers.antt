@@ -10,18 +10,18 @@ use Rattle.image.proofs.method.put_vector.Goals.{After-member_count-fields}
 few : (m : After-member_count-fields) → m.member_count-fields.result ≤ 32
 few m =
     let a = m.args in
-    omega (arith, m.member_count-fields.ensures, members_le a.tables.now a.class 0)
+    omega (arith, m.member_count-fields.ensures, members_le a.method.now.tables.now a.method.now.class 0)
 
 pub put_letters-at-requires : goal.put_letters-at-requires
 put_letters-at-requires c = (few (goal.at.put_letters-at-requires c).After-member_count-fields, omega arith)
 
 pub put_byte-requires : goal.put_byte-requires
 put_byte-requires c =
-    omega (arith, c.put_letters-at.ensures.behind, letters_le c.class_word-read.result c.class_word-write.result c.class_word-add.result c.member_count-fields.result (few (goal.at.put_byte-requires c).After-member_count-fields))
+    omega (arith, c.put_letters-at.ensures.behind, letters_le c.word-read.result c.word-write.result c.word-add.result c.member_count-fields.result (few (goal.at.put_byte-requires c).After-member_count-fields))
 
 pub returns : goal.returns
 unfolding method_letters
 returns c =
     appended_then
-    (appended_as (λ i. letters_from (c.class_word-read.ensures i) (c.class_word-write.ensures i) (c.class_word-add.ensures i) (c.member_count-fields.ensures i)) c.put_letters-at.ensures)
+    (appended_as (λ i. letters_from (c.word-read.ensures i) (c.word-write.ensures i) (c.word-add.ensures i) (c.member_count-fields.ensures i)) c.put_letters-at.ensures)
     c.put_byte.ensures

@@ -1,27 +1,30 @@
 -- `step` meets its contract: the tests in the order of the numbers, then the message's next step.
-use mathlib.Core.Path.{refl}
-use Rattle.machine_checks.specs.Phases.{within, refused_first, when_closed, when_idle, when_waiting, when_left, leaves_as}
+use Rattle.std.proofs.Common.{◌≡◌, Err, refl, ap, rules}
+use Rattle.machine_checks.specs.Phase.{phase_number}
+use Rattle.machine_checks.specs.Told.{refused_some, leaves_refused}
+use Rattle.machine_checks.specs.Phases.{within, refused_first, when_closed, when_idle, when_running, when_waiting, leaves_as}
 use Rattle.machine_calls.proofs.step.step.Goals as goal
 
-pub returns-then-number-ne0 : goal.returns-then-number-ne0
-returns-then-number-ne0 c = leaves_as (refused_first _ _ _ c.refusal-number.ensures c.if-number-ne0.true) (record { says = refl; left = refl })
+pub returns-in_err-refusal : goal.returns-in_err-refusal
+returns-in_err-refusal c =
+    let r : c.from_residual.result ≡ Err c.in_err-refusal.field-0.0 = search rules in
+    rw r (leaves_as (refused_first _ _ _ c.in_err-refusal.ensures.refused (refused_some _)) (leaves_refused _ _))
 
-pub returns-then-phase-eq-CLOSED : goal.returns-then-phase-eq-CLOSED
-returns-then-phase-eq-CLOSED c =
-    leaves_as (when_closed _ _ _ c.refusal-number.ensures c.if-number-ne0.false _ c.phase_of-phase.ensures c.if-phase-eq-CLOSED.true) (record { says = refl; left = refl })
+pub returns-in-Closed : goal.returns-in-Closed
+returns-in-Closed c =
+    leaves_as (when_closed _ _ _ c.in_ok-refusal.ensures.refused refl _ c.in_ok-refusal.ensures.phase (ap phase_number c.in-Closed.is)) (leaves_refused _ _)
 
-pub returns-then-phase-eq-IDLE : goal.returns-then-phase-eq-IDLE
-returns-then-phase-eq-IDLE c =
-    leaves_as (when_idle _ _ _ c.refusal-number.ensures c.if-number-ne0.false _ c.phase_of-phase.ensures c.if-phase-eq-IDLE.true) (record { says = refl; left = refl })
+pub returns-in-Idle : goal.returns-in-Idle
+returns-in-Idle c =
+    leaves_as (when_idle _ _ _ c.in_ok-refusal.ensures.refused refl _ c.in_ok-refusal.ensures.phase (ap phase_number c.in-Idle.is)) (leaves_refused _ _)
 
-pub returns-then-phase-eq-WAITING : goal.returns-then-phase-eq-WAITING
-returns-then-phase-eq-WAITING c =
-    leaves_as (when_waiting _ _ _ c.refusal-number.ensures c.if-number-ne0.false _ c.phase_of-phase.ensures c.if-phase-eq-WAITING.true) (record { says = refl; left = refl })
+pub returns-in-Waiting : goal.returns-in-Waiting
+returns-in-Waiting c =
+    leaves_as (when_waiting _ _ _ c.in_ok-refusal.ensures.refused refl _ c.in_ok-refusal.ensures.phase (ap phase_number c.in-Waiting.is)) (leaves_refused _ _)
 
 pub advance-requires : goal.advance-requires
-advance-requires c =
-    within _ _ _ c.refusal-number.ensures c.if-number-ne0.false
+advance-requires c = within _ _ _ c.in_ok-refusal.ensures.refused refl
 
-pub returns : goal.returns
-returns c =
-    leaves_as (when_left _ _ _ c.refusal-number.ensures c.if-number-ne0.false _ c.phase_of-phase.ensures c.if-phase-eq-CLOSED.false c.if-phase-eq-IDLE.false c.if-phase-eq-WAITING.false) c.advance.ensures
+pub returns-in-Running : goal.returns-in-Running
+returns-in-Running c =
+    leaves_as (when_running _ _ _ c.in_ok-refusal.ensures.refused refl _ c.in_ok-refusal.ensures.phase (ap phase_number c.in-Running.is)) c.advance.ensures

@@ -10,4 +10,4 @@ loop-slot-init c = (omega arith, refl)
 
 pub loop-slot-preserved : goal.loop-slot-preserved
 loop-slot-preserved c =
-    (omega arith, held_more _ _ _ _ _ _ c.loop-slot.invariant.1 c.held_at-held.ensures)
+    (omega arith, held_more _ _ _ _ _ _ c.loop-slot.invariant.1 (rw c.row_of.ensures at c.held_at-held.ensures))

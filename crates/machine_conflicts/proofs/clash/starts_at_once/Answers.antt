@@ -11,9 +11,9 @@ returns-then-get-ne0 c =
 pub returns-then-held_by_all-methods-ne0 : goal.returns-then-held_by_all-methods-ne0
 returns-then-held_by_all-methods-ne0 c =
     let a = c.args in
-    held_there a.state.now (asked a.wanted) _ c.get.ensures c.if-get-ne0.false _ _ c.held_by_all.ensures c.conflicts-methods.ensures c.if-held_by_all-methods-ne0.true
+    held_there a.state.now (asked a.wanted) _ c.get.ensures c.if-get-ne0.false _ _ c.held_by_all.ensures (rw c.tables_of.ensures at c.conflicts-methods.ensures) c.if-held_by_all-methods-ne0.true
 
 pub returns : goal.returns
 returns c =
     let a = c.args in
-    free_there a.state.now (asked a.wanted) _ c.get.ensures c.if-get-ne0.false _ _ c.held_by_all.ensures c.conflicts-methods.ensures c.if-held_by_all-methods-ne0.false _ c.named_at.ensures
+    free_there a.state.now (asked a.wanted) _ c.get.ensures c.if-get-ne0.false _ _ c.held_by_all.ensures (rw c.tables_of.ensures at c.conflicts-methods.ensures) c.if-held_by_all-methods-ne0.false _ (rw c.tables_of-2.ensures at c.named_at.ensures)

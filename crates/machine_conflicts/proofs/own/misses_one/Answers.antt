@@ -1,34 +1,18 @@
--- `misses_one` meets its contract: at each turn no lock of the classes passed so far is missing.
-use native.Mathlib.Omega.{arith}
-use mathlib.Core.Path.{refl, sym, ◌∙◌}
+-- `misses_one` meets its contract: each class is tested.
+use Rattle.std.proofs.Common.{refl, ap, ℕ, ◌∙◌, arith, rules, tests}
+use Rattle.std.proofs.lemmas.Iterator.{YieldsList-from_range}
+use Rattle.std.proofs.lemmas.Iterator.Search.{any_from_yields_List}
 use Rattle.model.specs.Base.{any, upto}
-use Rattle.catalog.specs.View.{class_count}
-use Rattle.laws.specs.Upto.{test_more, test_end, test_here}
-use Rattle.machine_words.specs.Request.{misses}
 use Rattle.machine_words.specs.Said.{asked}
+use Rattle.machine_conflicts.specs.Tested.{any_below}
+use Rattle.machine_words.specs.Request.{misses}
 use Rattle.machine_conflicts.specs.Own.{misses_one}
 use Rattle.machine_conflicts.proofs.own.misses_one.Goals as goal
-
-pub loop-class-init : goal.loop-class-init
-unfolding any upto
-loop-class-init c = (omega arith, refl)
-
-pub returns-then-misses_lock : goal.returns-then-misses_lock
-unfolding misses_one
-returns-then-misses_lock c =
-    let a = c.args in
-    let p = misses a.text.now a.tables.now (asked a.wanted) a.row.now in
-    sym (test_here p (λ d. d) c.loop-class.class (sym c.misses_lock.ensures ∙ c.if-misses_lock.true) (class_count a.tables.now) (omega (arith, c.class_count-count.ensures)))
-
-pub loop-class-preserved : goal.loop-class-preserved
-loop-class-preserved c =
-    let a = c.args in
-    let p = misses a.text.now a.tables.now (asked a.wanted) a.row.now in
-    (omega arith, test_more p (λ d. d) c.loop-class.class c.loop-class.invariant.1 (sym c.misses_lock.ensures ∙ c.if-misses_lock.false))
 
 pub returns : goal.returns
 unfolding misses_one
 returns c =
     let a = c.args in
     let p = misses a.text.now a.tables.now (asked a.wanted) a.row.now in
-    sym (test_end p (λ d. d) c.loop-class.class c.loop-class.invariant.1 (class_count a.tables.now) (omega (arith, c.class_count-count.ensures)))
+    any_from_yields_List p _ _ c.any.result c.any.ensures.ran (YieldsList-from_range 0 _ c.class_count.result refl (omega arith)) (λ x b q k. search (rules, tests))
+    ∙ any_below p c.class_count.result ∙ ap (λ (n : ℕ). any p (upto (λ d. d) n)) c.class_count.ensures

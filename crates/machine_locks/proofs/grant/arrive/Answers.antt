@@ -10,7 +10,8 @@ use Rattle.machine_words.specs.Line.{with_place, with_row, waiting_row, tables_o
 use Rattle.machine_words.specs.Calls.{lending_same}
 use Rattle.machine_checks.specs.Phases.{leaves_as}
 use Rattle.machine_conflicts.specs.Ahead.{count_le}
-use Rattle.machine_locks.specs.Outcomes.{says_held, leaves_refused}
+use Rattle.machine_checks.specs.Told.{leaves_refused}
+use Rattle.refusals.specs.declared.Refusal.TheVariants.{Misfit, Circle}
 use Rattle.machine_locks.specs.Granted.{arrives_free, arrives_full, arrives_last}
 use Rattle.machine_words.specs.Said.{asked}
 use Rattle.machine_locks.proofs.grant.arrive.Goals as goal
@@ -27,7 +28,7 @@ pub returns-then-closes_circle : goal.returns-then-closes_circle
 returns-then-closes_circle c =
     let b = sym c.if-closes_circle.true ∙ c.closes_circle.ensures in
     λ values. leaves_as (arrives_last _ _ _ _ _ c.waiting_count-count.ensures c.clashing-mask.ensures c.if-mask-eq0.false c.if-count-lt-SLOTS.true true b)
-    (leaves_refused _ 42 (omega arith) (omega arith))
+    (leaves_refused _ Circle)
 
 pub returns-then-count-lt-SLOTS : goal.returns-then-count-lt-SLOTS
 returns-then-count-lt-SLOTS c =
@@ -36,7 +37,7 @@ returns-then-count-lt-SLOTS c =
     let b = sym c.if-closes_circle.false ∙ c.closes_circle.ensures in
     λ values. leaves_as (arrives_last _ _ _ _ _ c.waiting_count-count.ensures c.clashing-mask.ensures c.if-mask-eq0.false c.if-count-lt-SLOTS.true false b)
     (record {
-      says = says_held _;
+      says = refl;
       left = lending_same refl
           (c.join.ensures ∙ ap (λ (x : ℕ). set (with_place (with_row a.state.now a.slot row) x a.slot) line_at (suc x)) c.waiting_count-count.ensures) refl;
     })
@@ -44,4 +45,4 @@ returns-then-count-lt-SLOTS c =
 pub returns : goal.returns
 returns c =
     λ values. leaves_as (arrives_full _ _ _ _ _ c.waiting_count-count.ensures c.clashing-mask.ensures c.if-mask-eq0.false c.if-count-lt-SLOTS.false)
-    (leaves_refused _ 24 (omega arith) (omega arith))
+    (leaves_refused _ Misfit)

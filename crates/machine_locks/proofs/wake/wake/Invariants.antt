@@ -8,6 +8,3 @@ abbrev pub invariant-loop-place : goal.invariant-loop-place
 invariant-loop-place l =
     (l.place ≤ l.count) × (l.ahead ≤ l.place) × (length l.state ≡ length l.initial.state)
     × (woken_from l.text (record { waiting = l.ahead; words = l.state }) l.place (l.count - l.place) ≡ woken_from l.text (record { waiting = 0; words = l.initial.state }) 0 l.count)
-
-abbrev pub decreases-loop-place : goal.decreases-loop-place
-decreases-loop-place l = l.count - l.place

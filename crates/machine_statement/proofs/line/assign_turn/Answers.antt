@@ -1,11 +1,11 @@
--- `assign_turn` meets its contract: the class has the field exactly if its place is below the number of fields.
+-- `assign_turn` meets its contract: the field is at its place, and there is no turn where the class has no such field.
+use mathlib.Core.Path.{refl, ap, ◌∙◌}
+use Rattle.machine_words.specs.Said.{said_turn}
 use Rattle.machine_statement.specs.Actions.{assign_there, assign_none}
 use Rattle.machine_statement.proofs.line.assign_turn.Goals as goal
 
-pub returns-then-field-member_count : goal.returns-then-field-member_count
-returns-then-field-member_count c =
-    assign_there _ _ _ _ _ _ _ _ _ c.find-field.ensures c.member_count.ensures c.if-field-member_count.true
+pub returns-in_err-field : goal.returns-in_err-field
+returns-in_err-field c = ap said_turn c.from_residual.ensures ∙ assign_none _ _ _ _ _ _ _ _ _ refl refl c.in_err-field.ensures
 
-pub returns-else-field-member_count : goal.returns-else-field-member_count
-returns-else-field-member_count c =
-    assign_none _ _ _ _ _ _ _ _ _ c.find-field.ensures c.member_count.ensures c.if-field-member_count.false
+pub returns : goal.returns
+returns c = assign_there _ _ _ _ _ _ _ _ _ c.in_ok-field.ensures.0 refl c.in_ok-field.ensures.1

@@ -16,4 +16,4 @@ returns c =
     c.statement_turn.ensures
     ∙ line_fits _ _ _ _ _ _ _ _ _ _ _ _ _
     c.class_of-class.ensures c.values_of-base.ensures c.member_count.ensures c.class_count.ensures c.get-place.ensures c.if-class_count-class.false
-    _ c.part_of-line.ensures
+    _ c.part_of.ensures

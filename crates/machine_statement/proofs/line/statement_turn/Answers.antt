@@ -11,12 +11,12 @@ pub returns-then-is_when : goal.returns-then-is_when
 returns-then-is_when c =
     let a = c.args in
     c.guarded_turn.ensures
-    ∙ line_guarded a.text.now a.tables.now a.own.now a.frame a.line.now
+    ∙ line_guarded a.frame.now a.line.now
     _ c.word_end-at.ensures _ c.keyword_of-keyword.ensures (sym c.is_when.ensures ∙ c.if-is_when.true)
 
 pub returns-else-is_when : goal.returns-else-is_when
 returns-else-is_when c =
     let a = c.args in
     c.words_turn.ensures
-    ∙ line_words a.text.now a.tables.now a.own.now a.frame a.line.now
+    ∙ line_words a.frame.now a.line.now
     _ c.word_end-at.ensures _ c.keyword_of-keyword.ensures (sym c.is_when.ensures ∙ c.if-is_when.false)

@@ -16,5 +16,5 @@ pub returns-else-target-point : goal.returns-else-target-point
 returns-else-target-point c =
     let e = c.piece_end-point in
     let a = c.args in
-    rw (target_other a.text.now a.tables.now a.class _ _ e.ensures c.if-target-point.false _ c.class_number-owner.ensures _ c.piece_after.ensures)
+    rw (target_other a.text.now a.tables.now a.class _ _ e.ensures c.if-target-point.false _ c.class_number-owner.ensures _ c.piece_after-method.ensures)
     c.body_in-else-target-point.ensures

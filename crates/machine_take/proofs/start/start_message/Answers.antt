@@ -5,4 +5,4 @@ use Rattle.machine_take.proofs.start.start_message.Goals as goal
 
 pub returns : goal.returns
 returns c =
-    entered_lent _ _ c.requires _ _ c.enter.new.row (search rules) c.enter.ensures
+    entered_lent _ _ c.requires _ _ c.row_range.ensures.0 c.row_range.ensures.1 _ _ c.enter.new.row (search rules) c.enter.ensures

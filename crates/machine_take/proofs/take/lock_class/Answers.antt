@@ -5,8 +5,8 @@ use Rattle.machine_take.proofs.take.lock_class.Goals as goal
 
 pub returns-then-bits-eq0 : goal.returns-then-bits-eq0
 returns-then-bits-eq0 c =
-    lock_free _ _ _ _ c.requires _ _ _ c.domain_bit-bits.ensures c.if-bits-eq0.true
+    lock_free _ _ _ _ c.requires _ _ _ (rw c.tables_of.ensures at c.domain_bit-bits.ensures) c.if-bits-eq0.true
 
 pub returns : goal.returns
 returns c =
-    lock_one _ _ _ _ c.requires _ _ _ c.domain_bit-bits.ensures c.if-bits-eq0.false c.add_lock.new.row (search rules) c.add_lock.ensures
+    lock_one _ _ _ _ c.requires _ _ _ (rw c.tables_of.ensures at c.domain_bit-bits.ensures) c.if-bits-eq0.false c.add_lock.new.row (search rules) c.add_lock.ensures

@@ -1,5 +1,5 @@
 use mathlib.Core.Path.{◌≡◌}
-use Prim.Native.Nat.{◌-◌, ◌≤◌}
+use Prim.Native.Nat.{◌≤◌}
 use lib.ListN.{take, drop}
 use lib.Seq.{sets}
 use Rattle.machine_words.specs.Line.{tables_of}
@@ -10,6 +10,3 @@ use Rattle.machine_take.proofs.take.lock_domain.Given as goal
 abbrev pub invariant-loop-class : goal.invariant-loop-class
 invariant-loop-class l =
     (l.class ≤ l.count) × (l.state ≡ sets l.initial.state l.start (locked_below l.text (tables_of l.initial.state) (asked l.wanted) (take l.size (drop l.start l.initial.state)) l.class))
-
-abbrev pub decreases-loop-class : goal.decreases-loop-class
-decreases-loop-class l = l.count - l.class

@@ -7,6 +7,7 @@ use Rattle.machine_take.proofs.wait.hold_back.Goals as goal
 pub returns : goal.returns
 returns c =
     let a = c.args in
-    held_back a.text.now a.state.now a.slot c.requires.0 (asked a.wanted)
-    _ (cleared_lent a.text.now a.state.now a.slot c.requires.0 (asked a.wanted) c.clear_waiting.new.row (search rules) c.clear_waiting.ensures)
+    let b = c.row_range-row.ensures.0 in
+    held_back a.text.now a.state.now a.slot c.requires.0 (asked a.wanted) _ b
+    _ (cleared_lent a.text.now a.state.now a.slot c.requires.0 (asked a.wanted) _ b _ c.row_range-row.ensures.1 c.clear_waiting.new.row (search rules) c.clear_waiting.ensures)
     c.write_request.new.waiting (search rules) c.write_request.ensures _ c.lock.ensures _ c.put.ensures

@@ -4,6 +4,7 @@ use Prim.Native.Nat.{◌+◌}
 use mathlib.Core.Path.{sym, ap, ◌∙◌}
 use native.Mathlib.Omega.{arith}
 use lib.Seq.{length-take-le}
+use Rattle.std.specs.Prelude.{Some}
 use Rattle.text_lex.specs.Scan.{is_byte, before_le}
 use Rattle.text_syntax.specs.Reading.{placed, shifted, operand_part, operand_none, no_levels, end_of_second, end_of_none, end_of_leaf, end_of_neither}
 use Rattle.text_syntax.proofs.expression.+expression_end_expression_end_after.Goals as goal
@@ -22,44 +23,46 @@ expression_end-slice_bounds-token_of-end t c =
     sym (length-take-le e.result s (omega (arith, e.ensures, before_le (is_byte 32) s)))
 
 -- An operator and two operands.
-pub expression_end-returns-in-Rest : goal.expression_end-returns-in-Rest
-expression_end-returns-in-Rest t c =
+pub expression_end-returns-in_ok-next-in-Sign : goal.expression_end-returns-in_ok-next-in-Sign
+expression_end-returns-in_ok-next-in-Sign t c =
     let a = c.args in
-    c.expression_end_after.ensures
-    ∙ end_of_second a.rest.now a.levels c.word_end-end.result c.if-levels-eq0.false c.word_end-end.ensures c.token_of-token.result c.token_of-token.ensures
-    _ c.in-Sign.is _ (sym c.in-Rest.is ∙ c.expression_end_after-first.ensures)
+    c.expression_end_after-in-Sign.ensures
+    ∙ end_of_second a.rest.now a.levels c.word_end-end.result c.if-levels-eq0.false c.word_end-end.ensures c.token_of.result c.token_of.ensures
+    _ (c.in_ok-token_of.was ∙ ap Some c.in-Sign.is) _ c.in_ok-next-in-Sign.ensures
 
 -- An operator without a first operand.
-pub expression_end-returns-in-Nowhere : goal.expression_end-returns-in-Nowhere
-expression_end-returns-in-Nowhere t c =
+pub expression_end-returns-in_err-next-in-Sign : goal.expression_end-returns-in_err-next-in-Sign
+expression_end-returns-in_err-next-in-Sign t c =
     let a = c.args in
-    end_of_none a.rest.now a.levels c.word_end-end.result c.if-levels-eq0.false c.word_end-end.ensures c.token_of-token.result c.token_of-token.ensures
-    _ c.in-Sign.is (sym c.in-Nowhere.is ∙ c.expression_end_after-first.ensures)
+    c.from_residual-in_err-next-in-Sign.ensures
+    ∙ end_of_none a.rest.now a.levels c.word_end-end.result c.if-levels-eq0.false c.word_end-end.ensures c.token_of.result c.token_of.ensures
+    _ (c.in_ok-token_of.was ∙ ap Some c.in-Sign.is) c.in_err-next-in-Sign.ensures
 
 -- A leaf.
 pub expression_end-returns-in-Single : goal.expression_end-returns-in-Single
 expression_end-returns-in-Single t c =
     let a = c.args in
-    end_of_leaf a.rest.now a.levels c.word_end-end.result c.if-levels-eq0.false c.word_end-end.ensures c.token_of-token.result c.token_of-token.ensures
-    _ c.in-Single.is
+    end_of_leaf a.rest.now a.levels c.word_end-end.result c.if-levels-eq0.false c.word_end-end.ensures c.token_of.result c.token_of.ensures
+    _ (c.in_ok-token_of.was ∙ ap Some c.in-Single.is)
 
 -- No token of an expression.
-pub expression_end-returns-in-Neither : goal.expression_end-returns-in-Neither
-expression_end-returns-in-Neither t c =
+pub expression_end-returns-in_err-token_of : goal.expression_end-returns-in_err-token_of
+expression_end-returns-in_err-token_of t c =
     let a = c.args in
-    end_of_neither a.rest.now a.levels c.word_end-end.result c.if-levels-eq0.false c.word_end-end.ensures c.token_of-token.result c.token_of-token.ensures
-    c.in-Neither.is
+    c.from_residual.ensures
+    ∙ end_of_neither a.rest.now a.levels c.word_end-end.result c.if-levels-eq0.false c.word_end-end.ensures c.token_of.result c.token_of.ensures
+    c.in_err-token_of.was
 
 -- Read in the part.
-pub expression_end_after-returns-in-Rest : goal.expression_end_after-returns-in-Rest
-expression_end_after-returns-in-Rest t c =
+pub expression_end_after-returns-in_ok-end : goal.expression_end_after-returns-in_ok-end
+expression_end_after-returns-in_ok-end t c =
     let a = c.args in
-    ap (shifted (a.at + 1)) (sym c.in-Rest.is ∙ c.expression_end-behind.ensures) ∙ operand_part a.line.now a.levels a.at c.if-at-line.true
+    ap (shifted (a.at + 1)) c.in_ok-end.ensures ∙ operand_part a.line.now a.levels a.at c.if-at-line.true
 
-pub expression_end_after-returns-in-Nowhere : goal.expression_end_after-returns-in-Nowhere
-expression_end_after-returns-in-Nowhere t c =
+pub expression_end_after-returns-in_err-end : goal.expression_end_after-returns-in_err-end
+expression_end_after-returns-in_err-end t c =
     let a = c.args in
-    ap (shifted (a.at + 1)) (sym c.in-Nowhere.is ∙ c.expression_end-behind.ensures) ∙ operand_part a.line.now a.levels a.at c.if-at-line.true
+    c.from_residual.ensures ∙ ap (shifted (a.at + 1)) c.in_err-end.ensures ∙ operand_part a.line.now a.levels a.at c.if-at-line.true
 
 pub expression_end_after-returns-else-at-line : goal.expression_end_after-returns-else-at-line
 expression_end_after-returns-else-at-line t c =

@@ -10,4 +10,4 @@ pub returns : goal.returns
 unfolding are_names
 returns c =
     let a = c.args in
-    ap not (at_end 32 a.line.now a.at refl) and c.all_words.ensures
+    ap not (at_end 32 a.line.now a.at refl) and c.all_names.ensures

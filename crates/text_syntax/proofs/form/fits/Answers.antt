@@ -1,7 +1,8 @@
 -- `fits` meets its contract, keyword by keyword.
-use mathlib.Core.Path.{refl}
+use mathlib.Core.Path.{refl, ◌∙◌}
 use Rattle.text_lex.specs.Piece.{at_end}
 use Rattle.text_syntax.specs.Kinds.{fits}
+use Rattle.text_syntax.proofs.FormLaws.{fits_action}
 use Rattle.text_syntax.proofs.form.fits.Goals as goal
 
 pub returns-in-Class : goal.returns-in-Class
@@ -24,26 +25,11 @@ pub returns-in-Object : goal.returns-in-Object
 unfolding fits
 returns-in-Object c = rw c.in-Object.is c.is_object.ensures
 
-pub returns-in-Set : goal.returns-in-Set
-unfolding fits
-returns-in-Set c = rw c.in-Set.is c.is_action.ensures
-
-pub returns-in-Add : goal.returns-in-Add
-unfolding fits
-returns-in-Add c = rw c.in-Add.is c.is_action-in-Add.ensures
-
-pub returns-in-Send : goal.returns-in-Send
-unfolding fits
-returns-in-Send c = rw c.in-Send.is c.is_action-in-Send.ensures
-
-pub returns-in-Reply : goal.returns-in-Reply
-unfolding fits
-returns-in-Reply c = rw c.in-Reply.is c.is_action-in-Reply.ensures
-
 pub returns-in-When : goal.returns-in-When
 unfolding fits
 returns-in-When c = rw c.in-When.is c.is_guarded.ensures
 
-pub returns-in-Other : goal.returns-in-Other
-unfolding fits
-returns-in-Other c = rw c.in-Other.is
+pub returns-in_default : goal.returns-in_default
+returns-in_default c =
+    let d = c.in_default in
+    c.makes_action.ensures ∙ fits_action c.args.keyword _ d.not-Class d.not-Field d.not-Method d.not-End d.not-Object d.not-When

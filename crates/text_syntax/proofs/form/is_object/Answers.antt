@@ -18,4 +18,4 @@ returns c =
     let b2 = behind 32 s e1.result e2.result e2.ensures b1 in
     (c.is_name.ensures ∙ ap is_name c.word_after.ensures)
     and (c.is_name-2.ensures ∙ ap is_name (c.word_after-2.ensures ∙ ap first b1))
-    and (c.all_words.ensures ∙ ap (every is_number) b2)
+    and (c.all_numbers.ensures ∙ ap (every is_number) b2)

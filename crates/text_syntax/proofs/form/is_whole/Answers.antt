@@ -3,7 +3,7 @@ use mathlib.Core.Path.{sym, ◌∙◌}
 use Rattle.text_syntax.proofs.FormLaws.{whole_at}
 use Rattle.text_syntax.proofs.form.is_whole.Goals as goal
 
-pub returns-in-Rest : goal.returns-in-Rest
-returns-in-Rest c =
+pub returns-in-Some : goal.returns-in-Some
+returns-in-Some c =
     let a = c.args in
-    whole_at a.line.now a.at _ (sym c.in-Rest.is ∙ c.expression_end_after-behind.ensures)
+    whole_at a.line.now a.at _ (sym c.in-Some.is ∙ c.expression_end_after.ensures)

@@ -1,55 +1,61 @@
 -- `first_misplaced` meets its contract: at each turn the pass over the lines left, from the place reached, finds what the pass
--- over the whole text finds. The place is the number of a place of the model; a line's number is at most its start + 1.
-use Prim.Native.Nat.{ℕ, ◌+◌, ◌-◌, ◌≤◌}
-use mathlib.Core.Path.{◌≡◌, sym, ap, ◌∙◌}
+-- over the whole text finds. A line's number is at most its start + 1.
+use Prim.Native.Nat.{◌+◌, ◌-◌}
+use mathlib.Core.Path.{sym, ap, ◌∙◌}
 use mathlib.Core.Bool.{Bool, cond}
 use native.Mathlib.Omega.{arith}
-use lib.ListN.{length, take, drop}
-use lib.Dec.{ltb}
+use lib.ListN.{take, drop}
 use Rattle.model.specs.Text.{words}
-use Rattle.model.specs.Form.{Form, form_of, place_number, place_after, may_stand}
-use Rattle.text_syntax.specs.Places.{pass_from, at_end, next_of, stops, goes_on, pass_stop, pass_more, pass_end}
+use Rattle.std.specs.Prelude.{Some, None}
+use Rattle.model.specs.Form.{Form, form_of, Place}
+use Rattle.text_syntax.specs.Kinds.{said}
+use Rattle.text_syntax.specs.Places.{said_place, pass_from, line_in, line_some, follows, pass_stop, pass_more, pass_end}
 use Rattle.text_syntax.proofs.place.first_misplaced.Goals as goal
-use Rattle.text_syntax.proofs.place.first_misplaced.Goals.{After-next_place-next}
+use Rattle.text_syntax.proofs.place.first_misplaced.Goals.{After-next_place}
 
 -- The form of the line being read.
-abbrev form : After-next_place-next → Form
+abbrev form : After-next_place → Form
 form c =
     let l = c.loop-end in
     form_of (words (take (l.end - l.at) (drop l.at c.args.text.now)))
 
-stands : (c : After-next_place-next)
-    → c.next_place-next.result ≡ cond (may_stand (form c) c.loop-end.invariant.0) (place_number (place_after (form c))) 5
-stands c =
-    let l = c.loop-end in
-    c.next_place-next.ensures ∙ next_of (form c) l.invariant.0 l.place _ l.invariant.1 c.kind_of.ensures
-
-pub returns-then-next-eq-NOWHERE : goal.returns-then-next-eq-NOWHERE
+pub returns-in_default : goal.returns-in_default
 unfolding pass_from
-returns-then-next-eq-NOWHERE c =
+returns-in_default c =
     let l = c.loop-end in
-    let s = c.args.text.now in
-    let m = stops (place_after (form (goal.at.returns-then-next-eq-NOWHERE c).After-next_place-next)) _ (sym (stands (goal.at.returns-then-next-eq-NOWHERE c).After-next_place-next) ∙ c.if-next-eq-NOWHERE.true) in
-    sym (pass_stop l.number l.invariant.0 s l.at l.end l.invariant.3 c.loop-end-test.true m) ∙ l.invariant.4
+    let f = form (goal.at.returns-in_default c).After-next_place in
+    let m = follows f l.place (said c.kind_of.result) None c.in_default.ensures c.kind_of.ensures in
+    line_some l.number l.invariant.counted
+    ∙ ap line_in (sym (pass_stop l.number (said_place l.place) c.args.text.now l.at l.end l.invariant.ends c.loop-end-test.true m) ∙ l.invariant.pass)
 
 pub loop-end-preserved : goal.loop-end-preserved
 loop-end-preserved c =
     let l = c.loop-end in
     let s = c.args.text.now in
-    let q = place_after (form (goal.at.loop-end-preserved c).After-next_place-next) in
-    let n : l.number + 1 ≤ l.end + 1 + 1 = omega arith in
-    let m = goes_on q _ (λ e. c.if-next-eq-NOWHERE.false (stands (goal.at.loop-end-preserved c).After-next_place-next ∙ e)) in (
-      q,
-      stands (goal.at.loop-end-preserved c).After-next_place-next ∙ ap (λ (t : Bool). cond t (place_number q) 5) m,
-      n,
-      c.line_end-end-in-loop-end.ensures,
-      sym (pass_more l.number l.invariant.0 s l.at l.end l.invariant.3 c.loop-end-test.true m) ∙ l.invariant.4,
-    )
+    let p = said_place l.place in
+    let f = form (goal.at.loop-end-preserved c).After-next_place in
+    let m = follows f l.place (said c.kind_of.result) (Some c.in-Some.next) c.in-Some.ensures c.kind_of.ensures in
+    record {
+      counted = omega arith;
+      few = omega arith;
+      ends = c.line_end-end-in-loop-end.ensures;
+      pass = ap (λ (q : Place). pass_from (l.number + 1) q s (l.end + 1)) m.1
+          ∙ sym (pass_more l.number p s l.at l.end l.invariant.ends c.loop-end-test.true m.0) ∙ l.invariant.pass;
+    }
 
-pub returns : goal.returns
+pub returns-then-is_unfinished : goal.returns-then-is_unfinished
 unfolding pass_from
-returns c =
+returns-then-is_unfinished c =
     let l = c.loop-end in
-    let s = c.args.text.now in
-    c.at_end.ensures ∙ ap (λ (p : ℕ). at_end l.number p (ltb l.at (length s))) l.invariant.1
-    ∙ sym (pass_end l.number l.invariant.0 s l.at l.end l.invariant.3 c.loop-end-test.false) ∙ l.invariant.4
+    let p = said_place l.place in
+    let t = sym c.is_unfinished.ensures ∙ c.if-is_unfinished.true in
+    line_some l.number l.invariant.counted
+    ∙ ap line_in (sym (pass_end l.number p c.args.text.now l.at l.end l.invariant.ends c.loop-end-test.false ∙ ap (λ (b : Bool). cond b l.number 0) t) ∙ l.invariant.pass)
+
+pub returns-else-is_unfinished : goal.returns-else-is_unfinished
+unfolding pass_from
+returns-else-is_unfinished c =
+    let l = c.loop-end in
+    let p = said_place l.place in
+    let t = sym c.is_unfinished.ensures ∙ c.if-is_unfinished.false in
+    ap line_in (sym (pass_end l.number p c.args.text.now l.at l.end l.invariant.ends c.loop-end-test.false ∙ ap (λ (b : Bool). cond b l.number 0) t) ∙ l.invariant.pass)

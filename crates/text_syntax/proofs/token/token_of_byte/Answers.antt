@@ -1,8 +1,9 @@
 -- `token_of_byte` meets its contract: for an operator by computation; any other byte is a letter, a digit or neither.
-use mathlib.Core.Path.{◌≡◌}
+use Prim.Native.Nat.{ℕ}
+use mathlib.Core.Path.{◌≡◌, ap, ◌∙◌}
 use mathlib.Core.List.{[], ◌∷◌}
 use native.Mathlib.Omega.{arith}
-use Rattle.model.specs.Expression.{token_of}
+use Rattle.model.specs.Expression.{leaf, number, token_of}
 use Rattle.text_syntax.proofs.TokenLaws.{inside, below, above, byte_leaf, alone}
 use Rattle.text_syntax.proofs.token.token_of_byte.Goals as goal
 
@@ -29,7 +30,8 @@ returns-in-61 c = rw c.in-61.is
 pub returns-in-48-to-57 : goal.returns-in-48-to-57
 returns-in-48-to-57 c =
     let b = c.args.byte in
-    rw (below 97 122 b (omega arith), inside 48 57 b (omega arith) (omega arith)) at ((let known : byte_leaf c.args.byte ≡ token_of (c.args.byte ∷ []) = let r = c.in-48-to-57.in_default-own.rest in alone c.args.byte r.0.0.0.0.1 r.0.0.0.1 r.0.0.1 r.0.1 r.1 in known))
+    ap (λ (n : ℕ). leaf (number n)) c.from.ensures
+    ∙ rw (below 97 122 b (omega arith), inside 48 57 b (omega arith) (omega arith)) at ((let known : byte_leaf c.args.byte ≡ token_of (c.args.byte ∷ []) = let r = c.in-48-to-57.in_default-own.rest in alone c.args.byte r.0.0.0.0.1 r.0.0.0.1 r.0.0.1 r.0.1 r.1 in known))
 
 pub returns-in-97-to-122 : goal.returns-in-97-to-122
 returns-in-97-to-122 c =

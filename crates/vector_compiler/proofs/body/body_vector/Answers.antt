@@ -9,18 +9,16 @@ use Rattle.vector_compiler.proofs.body.body_vector.Goals as goal
 pub loop-i-init : goal.loop-i-init
 loop-i-init c =
     let a = c.args in
-    (omega arith, none_joined (fields_in a.text.now a.tables.now a.class) (λ j f. in_statement f (statement_at a.text.now a.tables.now _ j)))
+    none_joined (fields_in a.class.now.text.now a.class.now.tables.now a.class.now.number) (λ j f. in_statement f (statement_at a.class.now.text.now a.class.now.tables.now _ j))
 
 pub loop-i-preserved : goal.loop-i-preserved
 loop-i-preserved c =
-    let a = c.args in (
-      omega arith,
-      statement_joined a.text.now a.tables.now (fields_in a.text.now a.tables.now a.class) c.body_of-body.result.first c.loop-i.i _
-          c.loop-i.vector c.line_vector.result c.joined-vector.result c.loop-i.invariant.1 c.line_of-line.ensures c.line_vector.ensures c.joined-vector.ensures,
-    )
+    let a = c.args in
+    statement_joined a.class.now.text.now a.class.now.tables.now (fields_in a.class.now.text.now a.class.now.tables.now a.class.now.number) c.body_of-body.result.first c.loop-i.i _
+    c.loop-i.vector c.line_vector.result c.joined-vector.result c.loop-i.invariant c.line_of-line.ensures c.line_vector.ensures c.joined-vector.ensures
 
 pub returns : goal.returns
 returns c =
     let a = c.args in
-    run_joined a.text.now a.tables.now (fields_in a.text.now a.tables.now a.class) c.body_of-body.result.first a.node c.loop-i.i
-    c.body_of-body.result.size c.loop-i.vector (omega arith) c.body_of-body.ensures c.loop-i.invariant.1
+    run_joined a.class.now.text.now a.class.now.tables.now (fields_in a.class.now.text.now a.class.now.tables.now a.class.now.number) c.body_of-body.result.first a.node c.loop-i.i
+    c.body_of-body.result.size c.loop-i.vector (omega arith) c.body_of-body.ensures c.loop-i.invariant

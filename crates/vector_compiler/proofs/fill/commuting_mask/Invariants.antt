@@ -1,4 +1,3 @@
-use Prim.Native.Nat.{◌-◌, ◌≤◌}
 use mathlib.Core.Path.{◌≡◌}
 use Rattle.model.specs.Base.{upto}
 use Rattle.model.specs.Image.{mask}
@@ -8,7 +7,4 @@ use Rattle.vector_compiler.proofs.fill.commuting_mask.Given as goal
 
 abbrev pub invariant-loop-other : goal.invariant-loop-other
 invariant-loop-other l =
-    (l.other ≤ l.count) × (l.mask ≡ mask (upto (λ k. apart (stored l.tables l.class l.method) (stored l.tables l.class k)) l.other))
-
-abbrev pub decreases-loop-other : goal.decreases-loop-other
-decreases-loop-other l = l.count - l.other
+    l.mask ≡ mask (upto (λ k. apart (stored l.tables l.class l.method) (stored l.tables l.class k)) l.other)

@@ -7,8 +7,6 @@ use Rattle.vector_compiler.proofs.fill.fill_commuting.Goals as goal
 pub loop-method-preserved : goal.loop-method-preserved
 unfolding member_count
 loop-method-preserved c =
-    let a = c.args in (
-      omega arith,
-      commuting_more a.tables.now a.class c.loop-method.method c.loop-method.tables (omega (arith, c.member_count-count.ensures)) c.loop-method.invariant.1
-          c.mask_place.result c.commuting_mask-mask.result _ c.mask_place.ensures c.commuting_mask-mask.ensures c.put.ensures,
-    )
+    let a = c.args in
+    commuting_more a.tables.now a.class c.loop-method.method c.loop-method.tables (omega (arith, c.member_count-count.ensures)) c.loop-method.invariant
+    c.mask_place.result c.commuting_mask-mask.result _ c.mask_place.ensures c.commuting_mask-mask.ensures c.put.ensures

@@ -1,11 +1,7 @@
-use Prim.Native.Nat.{◌-◌, ◌≤◌}
 use Rattle.vector_compiler.specs.Filling.{ModesTo}
 use Rattle.vector_compiler.specs.Memo.{Memory}
 use Rattle.vector_compiler.proofs.fill.fill_masks.Given as goal
 
 abbrev pub invariant-loop-method : goal.invariant-loop-method
 invariant-loop-method l =
-    (l.method ≤ l.count) × ModesTo l.text l.initial.tables l.class l.method l.tables × Memory l.text l.tables l.class l.bodies l.callees
-
-abbrev pub decreases-loop-method : goal.decreases-loop-method
-decreases-loop-method l = l.count - l.method
+    ModesTo l.text l.initial.tables l.class l.method l.tables × Memory l.text l.tables l.class l.memo
