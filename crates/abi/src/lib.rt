@@ -140,19 +140,16 @@ fn tell_call(outcome: Result<Outcome, Refusal>, detail: &mut u32) -> u32
     }
 }
 
-// The target of a send: an object (0), a class's own objects (1), a class's domain (2); for any other kind an object that never
-// exists.
+// The target of a send: an object, a class's own objects, a class's domain; for any other kind an object that never exists. The
+// kinds' numbers are the C interface's.
 fn target_of(kind: u32, number: u32) -> Target
     ensures { aimed result ≡ target_of kind number }
 {
-    if kind == layout::OBJECT_KIND {
-        Target::Object(number)
-    } else if kind == layout::CLASS_KIND {
-        Target::Class(number)
-    } else if kind == layout::DOMAIN_KIND {
-        Target::Domain(number)
-    } else {
-        Target::Object(64)
+    match kind {
+        0 => Target::Object(number),
+        1 => Target::Class(number),
+        2 => Target::Domain(number),
+        _ => Target::Object(layout::OBJECTS),
     }
 }
 

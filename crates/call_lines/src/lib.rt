@@ -7,6 +7,7 @@ mod name;
 mod objects;
 
 ghost use Rattle.std.specs.Prelude.{◌+◌, ◌<◌, ◌^◌, drop};
+ghost use Rattle.model.specs.Base.{bytes};
 ghost use Rattle.model.specs.Text.{words};
 ghost use Rattle.model.specs.Rehearsal.{call_line, slot_form, send_form};
 ghost use Rattle.text_lex.specs.Piece.{words_after};
@@ -15,6 +16,14 @@ ghost use Rattle.output.specs.Append.{Appended};
 ghost use Rattle.call_lines.specs.Lent.{lent_reply, lent_last};
 ghost use Rattle.call_lines.specs.Says.{Says};
 ghost use Rattle.call_lines.specs.Forms.{send_after};
+
+// Writes the answer to a line of another form.
+fn put_no_form(out: &mut [u8], at: usize) -> usize
+    requires { at + 3 < 2 ^ 64 }
+    ensures { Appended (bytes "51\n") out.old at result out.new }
+{
+    output::put_bytes(out, at, b"51\n")
+}
 
 // Makes the call of a line that is a keyword and a slot, and writes its answer.
 fn slot_call(
@@ -42,7 +51,7 @@ fn slot_call(
         let outcome = machine_calls::abort(text, state, values, slot);
         return answer::put_outcome(out, at, outcome);
     }
-    output::put_bytes(out, at, b"51\n")
+    put_no_form(out, at)
 }
 
 // Makes the send of a line, by its keyword, and writes its answer.
@@ -71,7 +80,7 @@ fn send_call(
             );
             answer::put_outcome(out, at, outcome)
         }
-        None => output::put_bytes(out, at, b"51\n"),
+        None => put_no_form(out, at),
     }
 }
 
@@ -99,14 +108,14 @@ fn send_line(
     let number = text_lex::number_of(text_lex::word_after(line, method_end));
     let end = text_lex::word_end_after(line, method_end);
     let Some(argument) = number else {
-        return output::put_bytes(out, at, b"51\n");
+        return put_no_form(out, at);
     };
     if text_lex::is_name(name) & text_lex::is_name(method) & (line.len() <= end) {
         send_call(
             text, state, values, keyword, slot, name, method, argument, out, at,
         )
     } else {
-        output::put_bytes(out, at, b"51\n")
+        put_no_form(out, at)
     }
 }
 
@@ -127,7 +136,7 @@ pub fn answer_line(
     let keyword = &line[..keyword_end];
     let number = text_lex::number_of(text_lex::word_after(line, keyword_end));
     let Some(slot) = number else {
-        return output::put_bytes(out, at, b"51\n");
+        return put_no_form(out, at);
     };
     let slot_end = text_lex::word_end_after(line, keyword_end);
     if line.len() <= slot_end {

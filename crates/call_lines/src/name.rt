@@ -19,12 +19,7 @@ pub struct Receiver {
 pub(crate) fn tables_of(state: &[u32]) -> &[u32]
     ensures { result.now ≡ tables_of state.now }
 {
-    let size = state.len();
-    if size <= layout::TABLE_WORDS {
-        return &state[..size];
-    }
-    let end = layout::TABLE_WORDS;
-    &state[..end]
+    &state[..state.len().min(layout::TABLE_WORDS)]
 }
 
 // The number of the class of that name; where there is none, the number of classes, for which a send is refused.
@@ -41,7 +36,8 @@ pub(crate) fn object_named(text: &[u8], state: &[u32], name: &[u8]) -> u32
     catalog::object_number(text, tables_of(state), name)
 }
 
-// The class of the object with a number; the number of classes where there is no such object.
+// The class of the object with a number; the number of classes where there is no such object. A count stands for none, since the
+// look-up may not refuse: the send tests for 31, 37 and 34 before it gives 36 (`request_for` in specs/Rehearsal.antt of `model`).
 pub(crate) fn class_of_number(text: &[u8], state: &[u32], object: u32) -> u32
     ensures { result ≡ class_of_number (lent_library text.now state.now) object }
 {
@@ -53,7 +49,8 @@ pub(crate) fn class_of_number(text: &[u8], state: &[u32], object: u32) -> u32
     }
 }
 
-// The place of a class's method of that name; that of no method where there is none.
+// The place of a class's method of that name; where there is none the number of its methods, 0 where there is no such class, for
+// which a send is refused: a count, as in `class_of_number`.
 pub(crate) fn method_named(text: &[u8], state: &[u32], class: u32, name: &[u8]) -> u32
     ensures { result ≡ method_named text.now state.now class name.now }
 {

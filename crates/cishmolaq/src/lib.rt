@@ -1,6 +1,6 @@
 // The public entries. Those over a text (its verdict, its image, its statements, its starting values, the lines that `tables`
 // prints, a start on it) read the text anew into tables of their own. The calls of the machine work on the lent state. Each is
-// total, and writes to what is lent only where it gives no number, 40 or 41.
+// total. Only one that answers no refusal writes to what is lent; 40 and 41 are no refusals.
 #![tactic(auto)]
 
 ghost use Rattle.std.specs.Prelude.{ℕ, ◌≡◌, List, length};
@@ -91,7 +91,7 @@ pub fn compile(text: &[u8], image: &mut [u8]) -> Result<usize, Error>
 }
 
 // The place of a statement in the text, and its size in bytes; both 0 where there is none.
-#[derive(Clone, Copy)]
+#[derive(Clone, Copy, Debug, PartialEq, Eq)]
 pub struct Place {
     pub at: usize,
     pub size: usize,
@@ -131,7 +131,7 @@ pub fn statement(text: &[u8], count: u32) -> &[u8]
     catalog::part(text, place.at, place.size)
 }
 
-// The number for looking up a statement by its count: 23 from the number of statements on.
+// Refuses the look-up of a statement by its count from the number of statements on: 23.
 pub fn statement_fault(text: &[u8], count: u32) -> Result<(), Error>
     ensures { said_done result ≡ statement_answer text.now count }
 {

@@ -14,7 +14,7 @@ use refusals::Refusal;
 use std::ops::Range;
 
 // A slot's phase: closed, open, with a message running, waiting with a send.
-#[derive(Clone, Copy)]
+#[derive(Clone, Copy, Debug, PartialEq, Eq)]
 pub enum Phase {
     Closed,
     Idle,

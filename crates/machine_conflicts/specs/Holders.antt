@@ -22,6 +22,16 @@ use Rattle.machine_conflicts.specs.Way.{gathered, besides}
 
 -- ---- the slots in the way
 
+-- Another slot than the sender's.
+module _ (text ws : List ℕ) (n s : ℕ) (q : Wanted) (t : ℕ) where
+  pub own_slot : t ≡ s → false ≡ in_the_way text ws n s q t
+  unfolding in_the_way
+  own_slot e = rw (eq-eqb t s e)
+
+  pub other_slot : (t ≡ s → ⊥) → blocks ws n (row_meets text (tables_of ws) q) t ≡ in_the_way text ws n s q t
+  unfolding in_the_way
+  other_slot e = rw (ne_eqb t s e)
+
 -- By the test of a row, the slot's phase being f.
 module _ (ws : List ℕ) (test : List ℕ → Bool) (t : ℕ) where
   module _ (f : ℕ) (p : f ≡ phase_of (row_of ws t)) where

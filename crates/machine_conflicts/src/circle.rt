@@ -24,7 +24,7 @@ fn waits_for(text: &[u8], state: &[u32], ahead: u32, slot: u32) -> u32
 }
 
 // Adds bits to a slot's mask.
-fn add_mask(masks: &mut [u32], slot: u32, mask: u32)
+fn add_mask(masks: &mut [u32; 8], slot: u32, mask: u32)
     ensures { masks.new ≡ with_mask masks.old slot mask }
 {
     let old = memory::get(masks, slot as usize);
@@ -32,8 +32,8 @@ fn add_mask(masks: &mut [u32], slot: u32, mask: u32)
 }
 
 // Adds the slots that the one at a place of the line waits for; none where it does not wait.
-fn add_waits(text: &[u8], state: &[u32], place: u32, masks: &mut [u32])
-    requires { (state_words ≤ length state.now) × (place ≤ 8) × (length masks.old ≡ 8) }
+fn add_waits(text: &[u8], state: &[u32], place: u32, masks: &mut [u32; 8])
+    requires { (state_words ≤ length state.now) × (place ≤ 8) }
     ensures { Adds (waits_here text.now state.now place) masks.old masks.new }
 {
     let slot = slot_at(state, place);
@@ -45,8 +45,8 @@ fn add_waits(text: &[u8], state: &[u32], place: u32, masks: &mut [u32])
 }
 
 // Adds the slots that each waiting slot waits for.
-fn add_all_waits(text: &[u8], state: &[u32], count: u32, masks: &mut [u32])
-    requires { (state_words ≤ length state.now) × (count ≤ 8) × (length masks.old ≡ 8) }
+fn add_all_waits(text: &[u8], state: &[u32], count: u32, masks: &mut [u32; 8])
+    requires { (state_words ≤ length state.now) × (count ≤ 8) }
     ensures { Adds (waits_from text.now state.now 0 count) masks.old masks.new }
 {
     for place in 0..count {
@@ -55,7 +55,7 @@ fn add_all_waits(text: &[u8], state: &[u32], count: u32, masks: &mut [u32])
 }
 
 // Adds to a slot's mask what it leads to by way of another slot.
-fn lead_on(masks: &mut [u32], slot: u32, way: u32)
+fn lead_on(masks: &mut [u32; 8], slot: u32, way: u32)
     ensures { masks.new ≡ led_on masks.old slot way }
 {
     let mask = memory::get(masks, slot as usize);
@@ -67,8 +67,8 @@ fn lead_on(masks: &mut [u32], slot: u32, way: u32)
 }
 
 // Adds to each slot's mask what it leads to by way of one slot.
-fn lead_through(masks: &mut [u32], way: u32)
-    requires { (length masks.old ≡ 8) × (way < 8) }
+fn lead_through(masks: &mut [u32; 8], way: u32)
+    requires { way < 8 }
     ensures { Through way masks.old masks.new }
 {
     for slot in 0..layout::SLOTS {
@@ -77,8 +77,7 @@ fn lead_through(masks: &mut [u32], way: u32)
 }
 
 // Adds to each slot's mask what it leads to by any way.
-fn lead_all(masks: &mut [u32])
-    requires { length masks.old ≡ 8 }
+fn lead_all(masks: &mut [u32; 8])
     ensures { Relates (leads (relation masks.old) 8) masks.new }
 {
     for way in 0..layout::SLOTS {

@@ -39,6 +39,15 @@ module _ (tables : List ℕ) (c k n : ℕ) (e : n ≡ class_count tables) where
     unfolding method_refusal
     a_method l = rw (← e, lt-leb n c h, ← q, lt-leb m k l)
 
+pub refusal_lt : (tables : List ℕ) (c k n : ℕ) → n ≡ method_refusal tables c k → n < 64
+unfolding method_refusal
+refusal_lt tables c k n e = go (leb (class_count tables) c) (leb (member_count tables c 1) k) e
+  where
+    go : (a b : Bool) → n ≡ cond a 24 (cond b 36 0) → n < 64
+    go true b f = omega arith
+    go false true f = omega arith
+    go false false f = omega arith
+
 module _ (tables : List ℕ) (c k n : ℕ) (e : n ≡ method_refusal tables c k) (z : n ≡ 0) where
   passes : (leb (class_count tables) c ≡ false) × (leb (member_count tables c 1) k ≡ false)
   unfolding method_refusal

@@ -29,7 +29,7 @@ fn method_refusal(tables: &[u32], class: u32, place: u32) -> Result<(), Refusal>
     Ok(())
 }
 
-// Sends to a class's own objects (kind 1) or to a domain (kind 2), by the class's methods; refuses it where a class of the
+// Sends to a class's own objects or to a domain, as the kind says, by the class's methods; refuses it where a class of the
 // domain lacks the method.
 fn send_to(
     text: &[u8],
@@ -99,7 +99,7 @@ fn send_object(
     send_to_object(text, state, slot, number, class, place, argument)
 }
 
-// Sends to a class's own objects (kind 1) or to its domain (kind 2), if there is such a class.
+// Sends to a class's own objects or to its domain, as the kind says, if there is such a class. The kind is a word, as in `Wanted`.
 fn send_class(
     text: &[u8],
     state: &mut [u32],

@@ -54,7 +54,7 @@ fn enter_past(row: &mut [u32], object: u32)
     memory::put(row, layout::SUM_AT, 0);
 }
 
-// Puts the message at its start; does nothing where that is nowhere.
+// Puts the message at its start; does nothing where that is nowhere, as `entered` has it.
 pub fn enter(row: &mut [u32], wanted: Wanted, first: Option<Start>)
     ensures { row.new ≡ entered (asked wanted) (said_first first) row.old }
 {

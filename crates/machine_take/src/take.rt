@@ -3,7 +3,7 @@ ghost use Rattle.std.specs.Prelude.{◌≡◌, ◌<◌, take, drop};
 ghost use Rattle.machine_words.specs.Row.{with_bits};
 ghost use Rattle.machine_words.specs.Request.{domain_lock, locked};
 ghost use Rattle.machine_words.specs.Said.{asked};
-ghost use Rattle.machine_take.specs.Locking.{place_bit, domain_bit, locked_target};
+ghost use Rattle.machine_take.specs.Locking.{place_bit, locked_target};
 ghost use Rattle.catalog.specs.View.{class_count};
 ghost use Rattle.std.proofs.lemmas.List.Edits.{sets};
 ghost use Rattle.machine_words.specs.Line.{tables_of};
@@ -19,16 +19,6 @@ pub fn place_bit(place: u32) -> u32
     ensures { result ≡ place_bit place }
 {
     if place < 32 { 1u32 << place } else { 0 }
-}
-
-// The bit of the send's lock on a class of its domain; 0 where it does not lock the class.
-fn domain_bit(text: &[u8], tables: &[u32], wanted: Wanted, class: u32) -> u32
-    ensures { result ≡ domain_bit text.now tables.now (asked wanted) class }
-{
-    match domain_place(text, tables, wanted, class) {
-        Some(place) => place_bit(place),
-        None => 0,
-    }
 }
 
 // Adds lock bits to a word of the row, and marks the word as one with locks.
@@ -63,16 +53,15 @@ fn lock_class(text: &[u8], state: &mut [u32], start: usize, size: usize, wanted:
     requires { Span state.old start size }
     ensures { state.new ≡ sets state.old start (domain_lock text.now (tables_of state.old) (asked wanted) (take size (drop start state.old)) class) }
 {
-    let bits = domain_bit(text, tables_of(state), wanted, class);
-    if bits == 0 {
-        return;
+    if let Some(place) = domain_place(text, tables_of(state), wanted, class) {
+        let bits = place_bit(place);
+        let end = start + size;
+        add_lock(
+            &mut state[start..end],
+            layout::WHOLE_LOCKS_AT + class as usize,
+            bits,
+        );
     }
-    let end = start + size;
-    add_lock(
-        &mut state[start..end],
-        layout::WHOLE_LOCKS_AT + class as usize,
-        bits,
-    );
 }
 
 // Takes the locks of a send to a domain.

@@ -54,8 +54,8 @@ fn object_among(tables: &[u32], kind: u32, number: u32, from: u32) -> u32
     count.max(from)
 }
 
-// The first object to visit from a number on; where there is none, the number of objects, or `from` where that is greater. A
-// message to one object looks at no other.
+// The first object to visit from a number on; where there is none, the number of objects, or `from` where that is greater: a row keeps
+// it as the place past the last (`past_row`). A message to one object looks at no other.
 pub fn object_from(tables: &[u32], kind: u32, number: u32, from: u32) -> u32
     ensures { result ≡ object_from tables.now kind number from }
 {

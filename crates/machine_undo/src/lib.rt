@@ -44,10 +44,7 @@ fn put_back(row: &[u32], values: &mut [u32])
 fn is_set(change: Change) -> bool
     ensures { result ≡ is_set (said_change change) }
 {
-    match change {
-        Change::Replace => true,
-        Change::Increase => false,
-    }
+    change == Change::Replace
 }
 
 // The word of a note where `sum` was added so far and the old value is changed: a set notes that less the sum, an addition adds to
@@ -101,6 +98,7 @@ fn clear_marked(row: &mut [u32], first: usize, marks: u32)
     ensures { row.new ≡ zeroed (bit_from first marks) row.old }
 {
     let mut left = marks;
+    // A `while`, with a turn for each bit that is set, not for each of 32: the speed of a commit.
     while left != 0 {
         let mark = left.trailing_zeros();
         row[first + mark as usize] = 0;
@@ -126,6 +124,7 @@ fn clear_notes(row: &mut [u32])
     ensures { row.new ≡ unnoted row.old }
 {
     let mut word = 0;
+    // A `while`, since a turn may pass over four words: the speed of a commit.
     while word < layout::VALUES / 32 {
         if unmarked(row, word) {
             word += 4;

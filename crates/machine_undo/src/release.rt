@@ -28,6 +28,7 @@ fn clear_locks(row: &mut [u32])
     ensures { row.new ≡ unlocked row.old }
 {
     let mut left = memory::get(row, layout::LOCK_MARKS_AT);
+    // A `while`, with a turn for each bit that is set, not for each of 32: the speed of a commit.
     while left != 0 {
         let eight = left.trailing_zeros();
         clear_eight(row, eight);

@@ -6,14 +6,14 @@ ghost use Rattle.std.specs.Prelude.{◌≡◌};
 ghost use Rattle.machine_words.specs.Row.{act, top, with_act, new_act, object_row};
 
 // How a value is changed: replaced by another, or increased by it.
-#[derive(Clone, Copy)]
+#[derive(Clone, Copy, Debug, PartialEq, Eq)]
 pub enum Change {
     Replace,
     Increase,
 }
 
 // The next step of a running message: see `Turn` in specs/Row.antt.
-#[derive(Clone, Copy)]
+#[derive(Clone, Copy, Debug, PartialEq, Eq)]
 pub enum Turn {
     Stop,
     Skip,
@@ -26,7 +26,7 @@ pub enum Turn {
 }
 
 // The target of a send, by number: an object, a class's own objects, or a class's domain.
-#[derive(Clone, Copy)]
+#[derive(Clone, Copy, Debug, PartialEq, Eq)]
 pub enum Target {
     Object(u32),
     Class(u32),
@@ -35,7 +35,7 @@ pub enum Target {
 
 // A send, as the lock rules see it: see `Wanted` in specs/Request.antt. Its kind and number are words of the state, where they may be
 // any (`wanted_in`), so that a `Target` cannot stand for them.
-#[derive(Clone, Copy)]
+#[derive(Clone, Copy, Debug, PartialEq, Eq)]
 pub struct Wanted {
     pub kind: u32,
     pub number: u32,
@@ -47,7 +47,7 @@ pub struct Wanted {
 
 // Where a message starts: on an object, with its method's first statement there and the one past its last; or past the last
 // object.
-#[derive(Clone, Copy)]
+#[derive(Clone, Copy, Debug, PartialEq, Eq)]
 pub enum Start {
     On(u32, u32, u32),
     Past(u32),
@@ -55,7 +55,7 @@ pub enum Start {
 
 // What a call answers that is not refused: done (a send: granted), going or the message's answer; 40 with the lowest clashing
 // slot; 41.
-#[derive(Clone, Copy)]
+#[derive(Clone, Copy, Debug, PartialEq, Eq)]
 pub enum Outcome {
     Done,
     Going,
@@ -88,8 +88,7 @@ pub fn put_act(row: &mut [u32], activation: u32, place: u32, value: u32)
 pub fn top(row: &[u32]) -> u32
     ensures { result ≡ top row.now }
 {
-    let depth = memory::get(row, layout::DEPTH_AT);
-    if depth == 0 { 0 } else { depth - 1 }
+    memory::get(row, layout::DEPTH_AT).saturating_sub(1)
 }
 
 // Opens a new activation: its first statement, the one past its last, and its argument.

@@ -48,4 +48,4 @@ returns-in_default c =
     let a = c.args in
     let s = a.line.now in
     let e = c.word_end-keyword_end in
-    says_none (lending a.text.now a.state.now a.values.now) (call_line (words s)) (line_slot s e.result e.ensures c.word_after.ensures (sym (ap said c.in_default.is) ∙ c.number_of-number.ensures)) c.put_bytes.ensures
+    says_none (lending a.text.now a.state.now a.values.now) (call_line (words s)) (line_slot s e.result e.ensures c.word_after.ensures (sym (ap said c.in_default.is) ∙ c.number_of-number.ensures)) c.put_no_form.ensures

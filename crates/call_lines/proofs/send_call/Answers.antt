@@ -19,4 +19,4 @@ pub returns-in-None : goal.returns-in-None
 returns-in-None c =
     let a = c.args in
     says_none (lending a.text.now a.state.now a.values.now) (send_form a.keyword.now a.slot a.name.now a.method.now a.argument)
-    (c.in-None.ensures a.slot a.method.now a.argument) c.put_bytes.ensures
+    (c.in-None.ensures a.slot a.method.now a.argument) c.put_no_form.ensures

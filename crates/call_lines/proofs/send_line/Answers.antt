@@ -35,7 +35,7 @@ returns-else-is_name-line c =
     let b3 = behind 32 s e2.result e3.result e3.ensures b2 in
     says_none (lending a.text.now a.state.now a.values.now) (send_after a.keyword.now a.slot (words_after (drop a.from s)))
     (send_found a.keyword.now a.slot (words_after (drop a.from s)) c.word_after-name.ensures (c.word_after-method.ensures ∙ ap first b1) (sym c.if-is_name-line.false ∙ (c.is_name.ensures and c.is_name-2.ensures and at_end 32 s e3.result b3)) (sym (ap said c.in-Some.is) ∙ c.number_of-number.ensures ∙ ap number_of (c.word_after.ensures ∙ ap first b2)))
-    c.put_bytes-else-is_name-line.ensures
+    c.put_no_form-else-is_name-line.ensures
 
 pub returns-in_default : goal.returns-in_default
 returns-in_default c =
@@ -47,4 +47,4 @@ returns-in_default c =
     let b2 = behind 32 s e1.result e2.result e2.ensures b1 in
     says_none (lending a.text.now a.state.now a.values.now) (send_after a.keyword.now a.slot (words_after (drop a.from s)))
     (send_found a.keyword.now a.slot (words_after (drop a.from s)) c.word_after-name.ensures (c.word_after-method.ensures ∙ ap first b1) refl (sym (ap said c.in_default.is) ∙ c.number_of-number.ensures ∙ ap number_of (c.word_after.ensures ∙ ap first b2)))
-    c.put_bytes.ensures
+    c.put_no_form.ensures

@@ -6,7 +6,7 @@ use Rattle.machine_conflicts.proofs.circle.add_waits.Goals as goal
 
 pub returns-then-not-is_waiting : goal.returns-then-not-is_waiting
 returns-then-not-is_waiting c =
-    waits_not _ _ _ c.args.masks.now c.requires.2 _ c.slot_at-slot.ensures _ c.is_waiting.ensures c.if-not-is_waiting.true
+    waits_not _ _ _ c.args.masks.now c.told-masks _ c.slot_at-slot.ensures _ c.is_waiting.ensures c.if-not-is_waiting.true
 
 pub waits_for-mask-requires : goal.waits_for-mask-requires
 waits_for-mask-requires c =
@@ -15,5 +15,5 @@ waits_for-mask-requires c =
 pub returns : goal.returns
 returns c =
     let z = c.if-not-is_waiting.false in
-    waits_slot _ _ _ c.args.masks.now c.requires.2 _ c.slot_at-slot.ensures _ c.is_waiting.ensures z (waiting_slot _ _ _ c.is_waiting.ensures z)
+    waits_slot _ _ _ c.args.masks.now c.told-masks _ c.slot_at-slot.ensures _ c.is_waiting.ensures z (waiting_slot _ _ _ c.is_waiting.ensures z)
     _ c.waits_for-mask.ensures _ c.add_mask.ensures

@@ -4,7 +4,7 @@ use Rattle.machine_conflicts.specs.Circle.{relation, leads_none, leads_more}
 use Rattle.machine_conflicts.proofs.circle.lead_all.Goals as goal
 
 pub loop-way-init : goal.loop-way-init
-loop-way-init c = (omega arith, leads_none _ c.requires)
+loop-way-init c = (omega arith, leads_none _ c.told-masks)
 
 pub loop-way-preserved : goal.loop-way-preserved
 loop-way-preserved c =

@@ -6,4 +6,4 @@ use Rattle.machine_conflicts.proofs.circle.lead_through.Goals as goal
 pub loop-slot-preserved : goal.loop-slot-preserved
 loop-slot-preserved c =
     let a = c.args in
-    (omega arith, through_more a.way a.masks.now c.loop-slot.slot c.loop-slot.masks c.loop-slot.invariant.1 c.loop-slot-test.true c.requires.1 _ c.lead_on.ensures)
+    (omega arith, through_more a.way a.masks.now c.loop-slot.slot c.loop-slot.masks c.loop-slot.invariant.1 c.loop-slot-test.true c.requires _ c.lead_on.ensures)
