@@ -3,6 +3,7 @@ pub mod Here
 pub mod Bodies
 pub mod Marks
 pub mod Numbers
+pub mod Stack
 pub mod Meeting
 pub mod Joining
 pub mod Closure

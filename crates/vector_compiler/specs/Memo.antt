@@ -1,6 +1,6 @@
 -- What is kept of methods and statements while the vectors of a class's methods are made: what is kept is right, and stays so
 -- where only masks are altered.
-use Rattle.std.specs.Prelude.{ℕ, ◌+◌, ◌*◌, ◌/◌, ◌%◌, ◌<◌, ◌≡◌, refl, ◌⊎◌, Bool, true, false, List, length, get_or, set, replicate, eqb, ltb, Option, Some, None}
+use Rattle.std.specs.Prelude.{ℕ, ◌+◌, ◌*◌, ◌/◌, ◌%◌, ◌≤◌, ◌<◌, ◌≡◌, refl, ◌⊎◌, Bool, true, false, List, [], ◌∷◌, length, get_or, set, replicate, eqb, ltb, Option, Some, None}
 use Rattle.std.proofs.Math.Logic.{inl, inr}
 use Rattle.std.proofs.lemmas.Option.{none-some, same_Some}
 use Rattle.std.proofs.Common.{sym, subst, ◌∙◌, arith, length-set, get_or-set_same, get_or-set_other, eqb-true, ltb-true, ltb-false}
@@ -25,7 +25,7 @@ use Rattle.vector_direct.specs.Calls.{number_in}
 use Rattle.vector_compiler.specs.declared.memo.Direct.{Direct}
 use Rattle.vector_compiler.specs.declared.memo.Memo.{Memo}
 use Rattle.vector_compiler.specs.declared.body.Class.{Class}
-use Rattle.vector_compiler.specs.Nodes.{node_at, body_of_node}
+use Rattle.vector_compiler.specs.Nodes.{node_at, body_of_node, vertex_le}
 use Rattle.vector_compiler.specs.Bodies.{statement_at}
 use Rattle.vector_compiler.specs.Meeting.{call_at}
 use Rattle.vector_compiler.specs.Filled.{OnlyMasks, MasksOf, masks_of_class, same_library}
@@ -90,10 +90,21 @@ pub record Callees (text ws : List ℕ) (c : ℕ) (ns : List (Option ℕ)) : Typ
   pub right : (first i y : ℕ) → get_or ns (first + i) None ≡ Some y → y ≡ call_at text ws c first i
 
 module _ (text ws : List ℕ) (c : ℕ) where
+  abbrev l : Library
+  l = library_of text ws
+
+  number_le : (vs : List Node) → number_in l vs ≤ 512
+  number_le [] = omega arith
+  number_le (v ∷ vs) = vertex_le text ws v.class v.method
+
+  -- A callee's number is at most 512.
+  pub call_le : (first i : ℕ) → call_at text ws c first i ≤ 512
+  unfolding call_at
+  call_le first i = number_le (callee l c (statement_at text ws first i).action)
+
   same_place : (first i first' i' : ℕ) → first + i ≡ first' + i' → call_at text ws c first i ≡ call_at text ws c first' i'
   unfolding call_at
-  same_place first i first' i' e =
-      ap (λ (s : ℕ). number_in (library_of text ws) (callee (library_of text ws) c (placed_of text ws s).statement.action)) e
+  same_place first i first' i' e = ap (λ (s : ℕ). number_in l (callee l c (placed_of text ws s).statement.action)) e
 
   callees_none : Callees text ws c (replicate 4096 None)
   callees_none = record { right = λ f i y h. absurd (none_kept 4096 (f + i) y h) }

@@ -84,6 +84,13 @@ module _ (text ws : List ℕ) (c : ℕ) (n : Name) where
   pub known_number : among methods n ≡ true → Known (number_of library (record { class = c; method = n }))
   known_number t = has_number t (number_of library (record { class = c; method = n })) (number_if true t)
 
+  pub vertex_le : number_of library (record { class = c; method = n }) ≤ 512
+  vertex_le = go (among methods n) refl
+    where
+      go : (t : Bool) → among methods n ≡ t → number_of library (record { class = c; method = n }) ≤ 512
+      go true t = let k = known_number t in omega (arith, k.known, k.number)
+      go false t = omega (arith, number_if false t)
+
   module _ (x : ℕ) (k : Known x) where
     at_place : get_or methods (member_place methods n) no_member ≡ member_at text ws c 1 (x % 32)
     at_place =

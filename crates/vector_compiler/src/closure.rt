@@ -1,10 +1,11 @@
 // What is reached from a method in the graph of a class (definitions 7 to 10): a worklist by marks. Each body that is reached is
 // followed once. A stack suggests the next one; the marks alone decide.
-ghost use Rattle.std.specs.Prelude.{ℕ, ◌≡◌, List, map, length, get_or, set, replicate};
+ghost use Rattle.std.specs.Prelude.{ℕ, ◌≡◌, ◌-◌, List, map, length, get_or, set, replicate};
 ghost use Rattle.vector_direct.specs.Says.{Says};
 ghost use Rattle.vector_compiler.specs.Here.{fields_of, CallsIn};
 ghost use Rattle.vector_compiler.specs.Marks.{touch, NextMet, CallsMet, Followed, Partly, Closed};
 ghost use Rattle.vector_compiler.specs.Numbers.{number};
+ghost use Rattle.vector_compiler.specs.Stack.{pushed, latest};
 ghost use Rattle.vector_compiler.specs.Joining.{joined_modes};
 ghost use Rattle.vector_compiler.specs.Closure.{marked_mode, VectorFound};
 ghost use Rattle.vector_compiler.specs.Memo.{Kept};
@@ -33,16 +34,22 @@ struct Stack {
 }
 
 impl Stack {
-    // Puts a method on the stack; does nothing where there is no room.
-    fn push(&mut self, node: u32) {
-        if let Some(place) = self.nodes.get_mut(self.count) {
-            *place = node;
+    // Puts a method on the stack; does nothing for a number that no method has.
+    fn push(&mut self, node: u32)
+        ensures { self.new ≡ pushed node self.old }
+    {
+        if node < NODES && self.count < self.nodes.len() {
+            self.nodes[self.count] = node;
             self.count += 1;
         }
     }
 
     // Takes the latest method off the stack.
-    fn pop(&mut self) -> Option<u32> {
+    fn pop(&mut self) -> Option<u32>
+        ensures latest { result ≡ latest self.old }
+        ensures count { self.new.count ≡ self.old.count - 1 }
+        ensures nodes { self.new.nodes ≡ self.old.nodes }
+    {
         self.count = self.count.checked_sub(1)?;
         self.nodes.get(self.count).copied()
     }

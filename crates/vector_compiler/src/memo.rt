@@ -1,6 +1,6 @@
 // What is found once for a class and kept while the vectors of its methods are made: for each method, where its body is and its
 // direct vector; for each statement, what it calls.
-ghost use Rattle.std.specs.Prelude.{◌≡◌, ℕ, List, get_or, set, Some, None};
+ghost use Rattle.std.specs.Prelude.{◌≡◌, ◌≤◌, ℕ, List, get_or, set, Some, None};
 ghost use Rattle.vector_compiler.specs.Meeting.{call_at};
 ghost use Rattle.vector_compiler.specs.Memo.{Right, Memory, Kept};
 
@@ -14,11 +14,12 @@ pub struct Direct {
     pub vector: Vector,
 }
 
-// What is kept of each method by its number, and of each statement the number of what it calls.
+// What is kept of each method by its number, and of each statement the number of what it calls, which is at most 512: in 16 bits, since
+// each class begins with an empty memo, and to empty it costs by its size.
 #[derive(Drop)]
 pub struct Memo {
     pub bodies: [Option<Direct>; 512],
-    pub callees: [Option<u32>; 4096],
+    pub callees: [Option<u16>; 4096],
 }
 
 // What a method does by itself, by its number, found in the text.
@@ -64,16 +65,18 @@ impl Memo {
     fn callee(&self, statement: usize) -> Option<u32>
         ensures { result ≡ get_or self.now.callees statement None }
     {
-        *self.callees.get(statement)?
+        let number = (*self.callees.get(statement)?)?;
+        Some(u32::from(number))
     }
 
     // Keeps the number of what a statement calls; nothing past the last one.
     fn keep_callee(&mut self, statement: usize, number: u32)
+        requires { number ≤ 512 }
         ensures bodies { self.new.bodies ≡ self.old.bodies }
         ensures callees { self.new.callees ≡ set self.old.callees statement (Some number) }
     {
         if statement < self.callees.len() {
-            self.callees[statement] = Some(number);
+            self.callees[statement] = Some(number as u16);
         }
     }
 
