@@ -81,14 +81,15 @@ pub(crate) fn receiver_named(
             class,
         });
     }
-    let class = class_named(text, state, name);
     if text_lex::same(keyword, b"all") {
+        let class = class_named(text, state, name);
         return Some(Receiver {
             target: Target::Class(class),
             class,
         });
     }
     if text_lex::same(keyword, b"tree") {
+        let class = class_named(text, state, name);
         return Some(Receiver {
             target: Target::Domain(class),
             class,

@@ -11,8 +11,9 @@ fn put_values(values: &[u32], base: usize, count: usize, out: &mut [u8], at: usi
     requires { (count ≤ 32) × (base ≤ 2048) × (at + 11 * 32 < 2 ^ 64) }
     ensures { Appended (flat_map value_printed (take count (drop base values.now))) out.old at result out.new }
 {
+    let rest = &values[base.min(values.len())..];
     let mut end = at;
-    for value in values.iter().skip(base).take(count) {
+    for value in rest.iter().take(count) {
         end = output::put_byte(out, end, b' ');
         end = output::put_digits(out, end, 10, *value);
     }

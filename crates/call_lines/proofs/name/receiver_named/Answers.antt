@@ -17,5 +17,5 @@ returns-then-same-2 c =
 pub returns-then-same-3 : goal.returns-then-same-3
 returns-then-same-3 c =
     let a = c.args in
-    finds_domain a.text.now a.state.now a.keyword.now a.name.now (sym c.same.ensures ∙ c.if-same.false) _ c.class_named-class.ensures
+    finds_domain a.text.now a.state.now a.keyword.now a.name.now (sym c.same.ensures ∙ c.if-same.false) _ c.class_named-class-then-same-3.ensures
     (sym c.same-2.ensures ∙ c.if-same-2.false) (sym c.same-3.ensures ∙ c.if-same-3.true)
