@@ -1,25 +1,29 @@
--- The model's tests of whole lists (`same`, `every`, `any`) as std's equality, a loop at place i, or a chain of tests makes them.
+-- The model's tests of whole lists (`same`, `every`, `any`) as a loop at place i, or a chain of tests, makes them.
 use Prim.Native.Nat.{ℕ, ◌+◌, ◌≤◌, ◌<◌}
 use mathlib.Core.Path.{◌≡◌, refl, sym, ap, ◌∙◌}
-use mathlib.Core.Bool.{Bool, true, false, ◌&&◌, ◌||◌}
+use mathlib.Core.Bool.{Bool, true, false, ◌||◌}
 use mathlib.Core.List.{List, [], ◌∷◌}
 use native.Mathlib.Numerals.{add-one}
 use lib.ListN.{length, drop, get_or, drop_of_length-le}
 use lib.Seq.{drop-cons}
 use lib.Dec.{eqb}
-use lib.Pointwise.{pointwise}
-use Rattle.std.specs.Prelude.{nat_eq}
+use borrow.Author.Tests.{eq-eqb, ne_eqb}
 use Rattle.model.specs.Base.{same, any, every}
 use Rattle.model.specs.Word.{begins_with_letter, is_name_byte, is_reserved, reserved}
 use Rattle.text_lex.specs.Among.{of_length, none_of_length, among, by_length}
 
--- std's equality of lists.
-pub same_pointwise : (a b : List ℕ) → pointwise nat_eq a b ≡ same a b
-unfolding same
-same_pointwise [] [] = refl
-same_pointwise [] (y ∷ ys) = refl
-same_pointwise (x ∷ xs) [] = refl
-same_pointwise (x ∷ xs) (y ∷ ys) = ap (λ (t : Bool). eqb x y && t) (same_pointwise xs ys)
+module _ (a b : List ℕ) (i : ℕ) where
+  pub same_end : length a ≤ i → length b ≤ i → same (drop i a) (drop i b) ≡ true
+  unfolding same
+  same_end h k = rw (drop_of_length-le a h, drop_of_length-le b k)
+
+  pub same_differ : i < length a → i < length b → (get_or a i 0 ≡ get_or b i 0 → ⊥) → same (drop i a) (drop i b) ≡ false
+  unfolding same
+  same_differ h k e = rw (drop-cons a i 0 h, drop-cons b i 0 k, ne_eqb _ _ e)
+
+  pub same_more : i < length a → i < length b → get_or a i 0 ≡ get_or b i 0 → same (drop i a) (drop i b) ≡ same (drop (i + 1) a) (drop (i + 1) b)
+  unfolding same
+  same_more h k e = rw (add-one, drop-cons a i 0 h, drop-cons b i 0 k, eq-eqb _ _ e)
 
 module _ (p : ℕ → Bool) (s : List ℕ) (i : ℕ) where
   pub every_end : length s ≤ i → every p (drop i s) ≡ true

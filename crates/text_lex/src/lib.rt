@@ -110,12 +110,19 @@ pub fn words_after(line: &[u8], at: usize) -> Words<'_>
     Words { line, at }
 }
 
-// Whether two pieces hold the same bytes.
-#[tactic(auto, using(crate::proofs::ListLaws::same_pointwise))]
+// Whether two pieces hold the same bytes. A loop: `==` of slices is a call, which costs more than to compare a short word.
 pub fn same(a: &[u8], b: &[u8]) -> bool
     ensures { result ≡ same a.now b.now }
 {
-    a == b
+    if a.len() != b.len() {
+        return false;
+    }
+    for i in 0..a.len() {
+        if a[i] != b[i] {
+            return false;
+        }
+    }
+    true
 }
 
 // Whether the byte is one of a–z.
@@ -136,7 +143,11 @@ fn is_digit(byte: u8) -> bool
 fn is_name_byte(byte: u8) -> bool
     ensures { result ≡ is_name_byte byte }
 {
-    is_letter(byte) || is_digit(byte) || byte == b'_'
+    // Most bytes of a name are letters.
+    if is_letter(byte) {
+        return true;
+    }
+    is_digit(byte) | (byte == b'_')
 }
 
 // Whether each byte may stand in a name.
