@@ -20,11 +20,11 @@ use Rattle.catalog.specs.Look.{shown_count}
 use Rattle.image.specs.Written.{values_from}
 
 -- The value of a word, by the number that `text_lex` reads in it.
-abbrev or_zero : Option ℕ → ℕ
+abbrev pub or_zero : Option ℕ → ℕ
 or_zero nothing = 0
 or_zero (some n) = n
 
-value_said : (w : List ℕ) → or_zero (number_of w) ≡ value_of w
+pub value_said : (w : List ℕ) → or_zero (number_of w) ≡ value_of w
 unfolding number_of value_of
 value_said w = go (is_number w)
   where
