@@ -121,7 +121,9 @@ fn is_send(line: &[u8], at: usize) -> bool
         & (is_target(text_lex::word_after(line, at)) & is_whole(line, own))
 }
 
-// Whether the words after `at` make an action of the keyword; false for a keyword of no action.
+// Whether the words after `at` make an action of the keyword; false for a keyword of no action. Inlined, since each statement of a
+// text passes here.
+#[inline(always)]
 fn makes_action(keyword: Keyword, line: &[u8], at: usize) -> bool
     ensures { result ≡ is_action (action_of (said_keyword (Some keyword)) (words_after (drop at line.now))) }
 {

@@ -34,7 +34,7 @@ struct Stack {
 }
 
 impl Stack {
-    // Puts a method on the stack; does nothing for a number that no method has.
+    // Puts a method on the stack; does nothing for a number that no method has, or where there is no room.
     fn push(&mut self, node: u32)
         ensures { self.new ≡ pushed node self.old }
     {
